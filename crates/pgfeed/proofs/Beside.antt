@@ -1,6 +1,7 @@
 -- What the calls of a feed leave of it as the ledger of the store beside it.
 use Rattle.std.proofs.Common.{◌≡◌, ◌<◌, ◌⊎◌, inl, inr, ℕ, List, [], ◌∷◌, ◌++◌, append-nil}
 use Rattle.std.proofs.Common.{append_assoc, ap, refl, sym, ◌∙◌, subst, arith, Bool, true, None}
+use Rattle.std.specs.Prelude.{is_some}
 use Rattle.std.specs.List.{AllByRecursion}
 use Rattle.std.proofs.lemmas.Bool.{cases_lt}
 use Rattle.pgapply.specs.Apply.{fold_changes}
@@ -9,6 +10,7 @@ use Rattle.pgledger.specs.Entries.{Entry, LeadTo, entry_of, last_end}
 use Rattle.pgledger.specs.Images.{images}
 use Rattle.pgledger.specs.Ledgers.{Appends, AppendsAtMost, Keeps, Rests, Syncs}
 use Rattle.pgfeed.specs.declared.feed.Feed.{Feed}
+use Rattle.pgfeed.specs.declared.folder.SegmentLimits.{SegmentLimits}
 use Rattle.pgfeed.specs.declared.segment.Segment.{Segment}
 use Rattle.pgfeed.specs.Beside.{FeedsBegin, FeedsGoOn, KeepsRest, LastsFrom}
 use Rattle.pgfeed.specs.Beside.{LeftIsReopened, RestsLead}
@@ -61,12 +63,13 @@ module _ {F D : Type 0} (seen : D → List ℕ) (may_leave : D → List ℕ → 
           subst (LastsUpTo seen may_leave is_clean is_true places has new) end (syncs k.stay k.kept),
         )
 
-    pub rest_rests : Goes seen may_leave is_clean is_true places has old new
-        → Rests (λ (l : Feed F D). 0) (λ (l : Feed F D). true) (LastsFrom seen may_leave is_clean is_true places has)
-        (ReopensAt seen may_leave is_clean is_true places has) old new
-    rest_rests goes = record {
+    pub rest_rests : new.limits ≡ old.limits → Goes seen may_leave is_clean is_true places has old new
+        → Rests (λ (l : Feed F D). 0) (λ (l : Feed F D). true) (λ (l : Feed F D). is_some l.limits.messages)
+        (LastsFrom seen may_leave is_clean is_true places has) (ReopensAt seen may_leave is_clean is_true places has) old new
+    rest_rests limits goes = record {
       begins_is = refl;
       wanting_is = refl;
+      hearing_is = ap (λ (m : SegmentLimits). is_some m.messages) limits;
       outlasts_more = λ p h. (let low = h.0 in omega (arith, begins), goes.lasts_more p h.1);
       reopens_less = goes.opens_less;
     }
@@ -104,7 +107,7 @@ module _ {F D : Type 0} (seen : D → List ℕ) (may_leave : D → List ℕ → 
   first_told : (tables : Tables) (place : ℕ) → (told : List Entry) × (last_end 0 told ≡ place) × LeadTo tables 0 told tables place
   unfolding fold_changes
   first_told tables place = elim (cases_lt 0 place) [
-    | inl up ↦ (entry_of place None [] (images tables []) ∷ [], refl, (up, ([], refl, (tables, refl, (refl, refl)))))
+    | inl up ↦ (entry_of place None [] [] (images tables []) ∷ [], refl, (up, ([], refl, (tables, refl, (refl, refl)))))
     | inr none ↦ ([], omega (arith, none), (refl, omega (arith, none)))
   ]
 

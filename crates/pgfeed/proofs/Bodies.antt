@@ -9,14 +9,15 @@ use Rattle.pgapply.specs.declared.commit.About.{About}
 use Rattle.pgapply.specs.declared.op.Op.{Op}
 use Rattle.pgapply.specs.Works.{IsNumbered, change_values, defined_by}
 use Rattle.pgapply.specs.Apply.{Change}
+use Rattle.pgledger.specs.declared.heard.Heard.{Heard}
 use Rattle.pgledger.specs.declared.image.Image.{Image}
 use Rattle.pgledger.specs.Images.{Line, lines}
 use Rattle.pgledger.specs.Entries.{entry_of}
 use Rattle.pgfeed.specs.declared.told.Told.{Told}
 use Rattle.pgfeed.specs.Fits.{FitsEntry, FitsLine}
 use Rattle.pgcrc.specs.Crc.{crc32}
-use Rattle.pgfeed.specs.Texts.{body_text, commit_told, crc_text, entry_crc, entry_text, line_of}
-use Rattle.pgfeed.specs.Texts.{line_text, line_told, padded, told_after}
+use Rattle.pgfeed.specs.Texts.{body_text, commit_told, crc_text, entry_body, entry_crc, entry_text}
+use Rattle.pgfeed.specs.Texts.{line_of, line_text, line_told, messages_text, padded, told_after}
 
 -- the first line
 next_line : (defs : List RelationDef) (entry : ℕ × Op) (entries : List (ℕ × Op)) (image : Image) (images : List Image)
@@ -167,10 +168,12 @@ counted : (count : ℕ) (defs : List RelationDef) (entries : List (ℕ × Op)) (
 counted count defs entries changes images made numbered many =
     many ∙ ap (λ k. min k (length images)) (sym (changes_length defs entries numbered) ∙ ap length made) ∙ sym (lines_length changes images)
 
-body_of : (body : List ℕ) (told : List Told) (start : ℕ) (defs : List RelationDef) (entries : List (ℕ × Op)) (changes : List Change)
+body_of : (body heard : List ℕ) (told : List Told) (start : ℕ) (defs : List RelationDef) (entries : List (ℕ × Op)) (changes : List Change)
     (images : List Image) → change_values defs entries ≡ changes
-    → body ≡ body_text told start 0 (lines (change_values defs entries) images) → body ≡ body_text told start 0 (lines changes images)
-body_of body told start defs entries changes images made is = is ∙ ap (λ them. body_text told start 0 (lines them images)) made
+    → body ≡ heard ++ body_text told (start + length heard) 0 (lines (change_values defs entries) images)
+    → body ≡ heard ++ body_text told (start + length heard) 0 (lines changes images)
+body_of body heard told start defs entries changes images made is =
+    is ∙ ap (λ them. heard ++ body_text told (start + length heard) 0 (lines them images)) made
 
 pub told_of : (after told : List Told) (start : ℕ) (defs : List RelationDef) (entries : List (ℕ × Op)) (changes : List Change)
     (images : List Image) → change_values defs entries ≡ changes
@@ -180,27 +183,32 @@ told_of after told start defs entries changes images made is = is ∙ ap (λ the
 -- The text is the line of the commit, and then its lines. `front` is what the line tells before its
 -- checksum.
 pub entry_is : (text line front body : List ℕ) (told : List Told) (start prev end count crc : ℕ) (about : Option About)
-    (defs : List RelationDef) (entries : List (ℕ × Op)) (changes : List Change) (images : List Image)
+    (messages : List Heard) (defs : List RelationDef) (entries : List (ℕ × Op)) (changes : List Change) (images : List Image)
     → change_values defs entries ≡ changes → AllByRecursion (IsNumbered defs) entries
-    → body ≡ body_text told start 0 (lines (change_values defs entries) images) → count ≡ min (length entries) (length images)
+    → body ≡ messages_text messages
+    ++ body_text told (start + length (messages_text messages)) 0 (lines (change_values defs entries) images)
+    → count ≡ min (length entries) (length images)
     → front ≡ commit_told end prev (length body) count about → crc ≡ crc32 (front ++ body) → line ≡ padded 256 (front ++ crc_text crc)
     → text ≡ line ++ body
-    → text ≡ entry_text prev (entry_of end about changes images) (body_text told start 0 (lines changes images))
+    → text ≡ entry_text prev (entry_of end about messages changes images)
+    (entry_body told start (entry_of end about messages changes images))
 unfolding entry_text entry_crc
-entry_is text line front body told start prev end count crc about defs entries changes images made numbered is many tells sums heads
-    whole =
+entry_is text line front body told start prev end count crc about messages defs entries changes images made numbered is many tells sums
+    heads whole =
     let count_is = counted count defs entries changes images made numbered many in
-    let body_is = body_of body told start defs entries changes images made is in
+    let body_is = body_of body (messages_text messages) told start defs entries changes images made is in
     rw (whole, heads, sums, tells, count_is, body_is) refl
 
-pub entry_fits : (body : List ℕ) (told : List Told) (start prev end long count : ℕ) (about : Option About) (defs : List RelationDef)
-    (entries : List (ℕ × Op)) (changes : List Change) (images : List Image)
+pub entry_fits : (body : List ℕ) (told : List Told) (start prev end long count : ℕ) (about : Option About) (messages : List Heard)
+    (defs : List RelationDef) (entries : List (ℕ × Op)) (changes : List Change) (images : List Image)
     → change_values defs entries ≡ changes → AllByRecursion (IsNumbered defs) entries
-    → body ≡ body_text told start 0 (lines (change_values defs entries) images) → count ≡ min (length entries) (length images)
+    → body ≡ messages_text messages
+    ++ body_text told (start + length (messages_text messages)) 0 (lines (change_values defs entries) images)
+    → count ≡ min (length entries) (length images)
     → long ≡ length body → FitsLine end prev long count about
-    → FitsEntry prev (entry_of end about changes images) (body_text told start 0 (lines changes images))
-entry_fits body told start prev end long count about defs entries changes images made numbered is many size fits =
+    → FitsEntry prev (entry_of end about messages changes images) (entry_body told start (entry_of end about messages changes images))
+entry_fits body told start prev end long count about messages defs entries changes images made numbered is many size fits =
     let count_is = counted count defs entries changes images made numbered many in
-    let body_is = body_of body told start defs entries changes images made is in
-    let long_is : long ≡ length (body_text told start 0 (lines changes images)) = size ∙ ap length body_is in
+    let body_is = body_of body (messages_text messages) told start defs entries changes images made is in
+    let long_is : long ≡ length (entry_body told start (entry_of end about messages changes images)) = size ∙ ap length body_is in
     rw (long_is, count_is) at fits

@@ -11,8 +11,8 @@ use Rattle.std.specs.List.{AllByRecursion}
 use Rattle.pgfeed.specs.declared.told.Told.{Told}
 use Rattle.pgfeed.specs.Next.{Remembers}
 use Rattle.pgfeed.specs.Reading.{Stands}
-use Rattle.pgfeed.specs.Texts.{Bodies, body_text, closing_line, entries_text, entry_text}
-use Rattle.pgfeed.specs.Texts.{segment_head, told_after}
+use Rattle.pgfeed.specs.Texts.{Bodies, closing_line, entries_text, entry_body, entry_text}
+use Rattle.pgfeed.specs.Texts.{entry_told, segment_head}
 use Rattle.pgfeed.specs.Fits.{FitsEntry}
 use Rattle.pgfeed.specs.Cutting.Kept.{kept_behind, kept_front, kept_more}
 use Rattle.pgfeed.specs.Cutting.Walking.{drop_front, no_entry}
@@ -93,14 +93,14 @@ kept_told base last size told now file es (inr none) k = record {
 -- an entry more, or as many where nothing is known of the write
 pub appended : (base new_base last new_last size more : ℕ) (told new_told : List Told) (old new : List ℕ)
     (before after : List ℕ → Type 0) (e : Entry) → new_base ≡ base → new_last ≡ e.end
-    → more ≡ size + length (entry_text last e (body_text told (size + 256) 0 e.lines))
-    → Remembers (told_after told (size + 256) 0 e.lines) new_told → last < e.end → FitsEntry last e (body_text told (size + 256) 0 e.lines)
-    → Holds new size (entry_text last e (body_text told (size + 256) 0 e.lines)) → WritesBehind size old new before after
+    → more ≡ size + length (entry_text last e (entry_body told (size + 256) e))
+    → Remembers (entry_told told (size + 256) e) new_told → last < e.end → FitsEntry last e (entry_body told (size + 256) e)
+    → Holds new size (entry_text last e (entry_body told (size + 256) e)) → WritesBehind size old new before after
     → (es : List Entry) → KeepsEntries base last size told old es → KeepsEntries new_base new_last more new_told new (es ++ e ∷ [])
 appended base new_base last new_last size more told new_told old new before after e same ends long tells above fits holds writes es k =
     subst (λ b. KeepsEntries b new_last more new_told new (es ++ e ∷ [])) (sym same)
     (subst (λ l. KeepsEntries base l more new_told new (es ++ e ∷ [])) (sym ends)
-    (kept_told base e.end more (told_after told (size + 256) 0 e.lines) new_told new (es ++ e ∷ []) tells
+    (kept_told base e.end more (entry_told told (size + 256) e) new_told new (es ++ e ∷ []) tells
     (kept_more base last size more writes.0 told old new es e k writes.1 holds above fits long)))
 
 pub untold : (base new_base last new_last size more : ℕ) (told new_told : List Told) (old new : List ℕ)

@@ -244,6 +244,40 @@ module _ {F D : Type 0} (seen : D → List ℕ) (may_leave : D → List ℕ → 
     pub less : (c : List ℕ) → may_leave new.segment.disk c → may_leave old.segment.disk c
     pub stuck : new.segment.is_stuck ≡ false → old.segment.is_stuck ≡ false
 
+  -- the segment is as it was, or it is stuck
+  pub stays_beside : (old new : Feed F D) → new.folder ≡ old.folder → new.ended.items ≡ old.ended.items → new.begins ≡ old.begins
+      → (new.segment ≡ old.segment) ⊎ (new.segment ≡ record old.segment { is_stuck = true }) → StaysOn old new
+  stays_beside old new folder ended begins (inl same) = record {
+    on = record {
+      folder_is = folder;
+      ended_is = ended;
+      begins_is = begins;
+      writes = writes_nothing seen may_leave old.segment new.segment (ap (λ (s : Segment D). s.base) same)
+          (ap (λ (s : Segment D). s.last) same) (ap (λ (s : Segment D). s.size) same) (ap (λ (s : Segment D). seen s.disk) same)
+          (λ c left. subst (λ (s : Segment D). may_leave s.disk c) same left);
+      clean = subst (λ (s : Segment D). IsTrue (is_clean s.disk) → IsTrue (is_clean old.segment.disk)) (sym same) (λ clean. clean);
+    };
+    size_is = ap (λ (s : Segment D). s.size) same;
+    last_is = ap (λ (s : Segment D). s.last) same;
+    told_is = ap (λ (s : Segment D). s.told.items) same;
+    less = λ c left. subst (λ (s : Segment D). may_leave s.disk c) same left;
+    stuck = λ free. ap (λ (s : Segment D). s.is_stuck) (sym same) ∙ free;
+  }
+  stays_beside old new folder ended begins (inr stops) = record {
+    on = record {
+      folder_is = folder;
+      ended_is = ended;
+      begins_is = begins;
+      writes = writes_stopped seen may_leave old.segment new.segment stops;
+      clean = subst (λ (s : Segment D). IsTrue (is_clean s.disk) → IsTrue (is_clean old.segment.disk)) (sym stops) (λ clean. clean);
+    };
+    size_is = ap (λ (s : Segment D). s.size) stops;
+    last_is = ap (λ (s : Segment D). s.last) stops;
+    told_is = ap (λ (s : Segment D). s.told.items) stops;
+    less = λ c left. subst (λ (s : Segment D). may_leave s.disk c) stops left;
+    stuck = λ free. absurd (true_false (sym (ap (λ (s : Segment D). s.is_stuck) stops) ∙ free));
+  }
+
   pub segment_stays : (old new : Segment D) → Writes seen may_leave old new → new.size ≡ old.size → new.last ≡ old.last
       → new.told.items ≡ old.told.items → (es : List Entry) → KeepsEntries old.base old.last old.size old.told.items (seen old.disk) es
       → KeepsEntries new.base new.last new.size new.told.items (seen new.disk) es

@@ -9,4 +9,6 @@ pub mod Beside
 mod Ending
 pub mod Naming
 mod SameDefinition
+pub mod OneReading
+pub mod Heard
 pub mod Places

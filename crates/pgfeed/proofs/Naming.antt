@@ -10,9 +10,9 @@ use Rattle.pgledger.specs.Images.{Line}
 use Rattle.pgfeed.specs.declared.told.Told.{Told}
 use Rattle.pgfeed.specs.Reading.{AllName, ChangesNameDefinitions, Names, Stands}
 use Rattle.pgfeed.specs.Texts.{body_text, fresh_text, if_there, image_line, line_of, line_text}
-use Rattle.pgfeed.specs.Texts.{line_told, named, newer, newest, place, same_definition, table_line}
-use Rattle.pgfeed.specs.Texts.{told_at}
-use Rattle.pgfeed.specs.Cutting.Written.{line_stand, stands_more}
+use Rattle.pgfeed.specs.Texts.{line_told, messages_text, named, newer, newest, place}
+use Rattle.pgfeed.specs.Texts.{same_definition, table_line, told_at}
+use Rattle.pgfeed.specs.Cutting.Written.{all_stand_more, line_stand, stands_more}
 use Rattle.pgfeed.proofs.SameDefinition.{one_definition}
 
 abbrev told_as : RelationDef → ℕ → Told
@@ -100,4 +100,9 @@ all_named front told n (line ∷ lines) all =
 
 pub name_definitions : ChangesNameDefinitions
 name_definitions front e body is =
-    subst (λ text. AllName (front ++ text) 0 e.lines) (sym is.body_is) (all_named front is.told 0 e.lines is.stand)
+    let heard : List ℕ = messages_text e.messages in
+    let changes : List ℕ = body_text is.told (length front + length heard) 0 e.lines in
+    let there : AllName ((front ++ heard) ++ changes) 0 e.lines =
+    subst (λ at. AllName ((front ++ heard) ++ body_text is.told at 0 e.lines) 0 e.lines) (length-append front heard)
+    (all_named (front ++ heard) is.told 0 e.lines (all_stand_more front heard is.told is.stand)) in
+    subst (λ text. AllName text 0 e.lines) (append_assoc front heard changes ∙ ap (λ xs. front ++ xs) (sym is.body_is)) there

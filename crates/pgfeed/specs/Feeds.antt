@@ -5,9 +5,11 @@ use Rattle.std.specs.Prelude.{◌≡◌, ◌≢◌, ◌<◌, ◌≤◌, ◌-◌,
 use Rattle.std.specs.Prelude.{◌∷◌, length, Bool, false, IsTrue, Option, Some, None, ⊤}
 use Rattle.std.specs.List.{AllByRecursion}
 use Rattle.pgapply.specs.declared.commit.About.{About}
-use Rattle.pgledger.specs.Entries.{Entry, last_end}
+use Rattle.pgledger.specs.declared.heard.Heard.{Heard}
+use Rattle.pgledger.specs.Entries.{Entry, last_end, messages_of}
 use Rattle.pgfeed.specs.declared.feed.Feed.{Feed}
 use Rattle.pgfeed.specs.declared.segment.Segment.{Segment}
+use Rattle.pgfeed.specs.Hearing.{IsWithin, all_heard}
 use Rattle.pgfeed.specs.Reading.{AreEntries}
 use Rattle.pgfeed.specs.Segments.{EndsTested, HasHead, HasWhatLasts, IsCut, IsEnded}
 use Rattle.pgfeed.specs.Segments.{IsFinished, IsFound, KeepsEntries}
@@ -54,6 +56,16 @@ StaysTimed before after old new =
 abbrev pub IsTimed : {D : Type 0} → Option ℤ → Option ℤ → Option About → Segment D → Segment D → Type 0
 IsTimed before after about old new =
     ((new.base ≡ old.base) × (after ≡ first_time before about)) ⊎ ((new.base ≡ old.last) × (after ≡ first_time None about))
+
+-- ---- what was heard
+
+-- the messages of the commit that comes next
+abbrev pub heard_by : {F D : Type 0} → Feed F D → List Heard
+heard_by l = messages_of (all_heard l.hearing)
+
+-- they have no more bytes than the limit
+abbrev pub HearsWithin : {F D : Type 0} → Feed F D → Type 0
+HearsWithin l = IsWithin l.limits.messages l.hearing
 
 -- ---- segments that have ended
 
@@ -235,6 +247,7 @@ module _ {F D : Type 0} (seen : D → List ℕ) (may_leave : D → List ℕ → 
     pub free : l.segment.is_stuck ≡ false
     pub synced : l.synced ≡ p
     pub untimed : l.first ≡ None
+    pub unheard : all_heard l.hearing ≡ Some []
     pub cuts : IsHonestFeed l → CutsIn folder p l.folder l.begins l.segment
 
   -- Of these entries of the old feed the new one keeps the last ones, from where it begins. Those

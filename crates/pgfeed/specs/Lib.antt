@@ -1,4 +1,5 @@
 pub mod Texts
+pub mod Hearing
 pub mod Fits
 pub mod Reading
 pub mod Segments

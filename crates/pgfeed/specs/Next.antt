@@ -5,14 +5,14 @@ use Rattle.pgfeed.specs.declared.entries.Piece.{Piece}
 use Rattle.pgfeed.specs.declared.segment.Segment.{Segment}
 use Rattle.pgfeed.specs.declared.told.Told.{Told}
 use Rattle.pgfeed.specs.Fits.{FitsEntry}
-use Rattle.pgfeed.specs.Texts.{body_text, entry_text, told_after}
+use Rattle.pgfeed.specs.Texts.{entry_body, entry_text, entry_told}
 
 -- the lines that an entry has there, and which definitions are told behind them
 abbrev pub next_body : {D : Type 0} → Segment D → Entry → List ℕ
-next_body s e = body_text s.told.items (s.size + 256) 0 e.lines
+next_body s e = entry_body s.told.items (s.size + 256) e
 
 abbrev pub next_told : {D : Type 0} → Segment D → Entry → List Told
-next_told s e = told_after s.told.items (s.size + 256) 0 e.lines
+next_told s e = entry_told s.told.items (s.size + 256) e
 
 abbrev pub FitsNext : {D : Type 0} → Segment D → Entry → Type 0
 FitsNext s e = FitsEntry s.last e (next_body s e)

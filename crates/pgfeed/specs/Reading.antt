@@ -6,10 +6,10 @@ use Rattle.pgledger.specs.Entries.{Entry, last_end}
 use Rattle.pgledger.specs.Images.{Line}
 use Rattle.pgfeed.specs.declared.mark.Mark.{Mark}
 use Rattle.pgcrc.specs.Crc.{crc32}
-use Rattle.pgfeed.specs.Texts.{Bodies, body_text, commit_front, crc_text, entries_text}
+use Rattle.pgfeed.specs.Texts.{Bodies, commit_front, crc_text, entries_text, entry_body}
 use Rattle.pgfeed.specs.Texts.{entry_line, entry_text, image_line, table_line}
 use Rattle.pgfeed.specs.declared.told.Told.{Told}
-use Rattle.pgfeed.specs.Fits.{FitsEntry}
+use Rattle.pgfeed.specs.Fits.{FitsEntry, FitsHeard}
 
 abbrev pub mark_of : Bodies → Entry → Mark
 mark_of bodies e = record { end = e.end; bytes = length (bodies e.end) }
@@ -53,15 +53,15 @@ pub record Stands (text : List ℕ) (told : Told) : Type 0 where
   pub is : text ≡ before ++ (table_line told.definition ++ more)
   pub offset_is : told.offset ≡ length before
 
--- Behind these bytes of a segment the lines tell the changes of the entry. Definitions that stand
--- in these bytes aren't told again.
+-- Behind these bytes of a segment the lines tell the messages and then the changes of the entry.
+-- Definitions that stand in these bytes aren't told again.
 pub record IsBody (front : List ℕ) (e : Entry) (body : List ℕ) : Type 0 where
   pub told : List Told
   pub stand : AllByRecursion (Stands front) told
-  pub body_is : body ≡ body_text told (length front) 0 e.lines
+  pub body_is : body ≡ entry_body told (length front) e
 
 -- Behind these bytes of a segment, and the commit that ends at this LSN, the entries have these
--- lines, which tell their changes, and their numbers are of 64 bits.
+-- lines, which tell what they did, and their numbers are of 64 bits.
 abbrev pub AreWritten : Bodies → List ℕ → ℕ → List Entry → Type 0
 AreWritten bodies front at [] = ⊤
 AreWritten bodies front at (e ∷ es) =
@@ -79,6 +79,13 @@ pub record Names (text : List ℕ) (n : ℕ) (line : Line) : Type 0 where
 abbrev pub AllName : List ℕ → ℕ → List Line → Type 0
 AllName text n [] = ⊤
 AllName text n (line ∷ lines) = Names text n line × AllName text (suc n) lines
+
+-- The lines of a commit tell its messages, in their order, and in one way: commits that have the
+-- same lines, wherever these stand, have the same messages.
+abbrev pub MessagesAreTold : Type 0
+MessagesAreTold =
+    (front other : List ℕ) (e f : Entry) (body : List ℕ) → AllByRecursion FitsHeard e.messages → AllByRecursion FitsHeard f.messages
+    → IsBody front e body → IsBody other f body → e.messages ≡ f.messages
 
 -- Each change names where in the segment its definition stands, in the lines of its commit or
 -- before them.

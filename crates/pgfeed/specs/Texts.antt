@@ -1,13 +1,15 @@
 -- The text of a feed: lines of JSON (RFC 8259) in UTF-8, each ended by a line feed. Cells are as in
 -- a dump. PostgreSQL documentation, Logical Replication Message Formats, Relation, Insert, Update,
--- Delete, Truncate, Commit.
+-- Delete, Truncate, Message, Commit.
 use Rattle.std.specs.Prelude.{ℕ, suc, ◌+◌, ◌-◌, ◌==◌, ◌&&◌, ℤ, pos, ◌+ℤ◌, List, [], ◌∷◌, ◌++◌}
-use Rattle.std.specs.Prelude.{length, map, replicate, Bool, Option}
+use Rattle.std.specs.Prelude.{length, map, replicate, Bool, not, Option}
 use Rattle.std.specs.Prelude.{Some, None, if◌then◌else◌, codes}
 use Rattle.std.specs.Prelude.{decimal}
 use Rattle.std.specs.Fmt.{signed_decimal}
 use Rattle.std.specs.Cmp.Lexicographic.{pointwise}
+use Rattle.std.specs.List.{list_any}
 use Rattle.std.specs.Ordering.{int_eq}
+use Rattle.std.specs.Str.{is_utf8}
 use Rattle.std.proofs.Math.Bool.{beq}
 use Rattle.json.specs.Print.{quoted}
 use Rattle.serde_json.specs.Data.{Data, null, string}
@@ -21,13 +23,14 @@ use Rattle.pglogical.specs.declared.message.OldKind.{OldKind}
 use Rattle.pgrel.specs.Identity.{keyed}
 use Rattle.pgapply.specs.declared.commit.About.{About}
 use Rattle.pgapply.specs.Dump.{shown_namespace}
+use Rattle.pgledger.specs.declared.heard.Heard.{Heard}
 use Rattle.pgledger.specs.declared.image.Image.{Image}
 use Rattle.pgledger.specs.declared.image.Image.TheVariants.{Inserted, Updated, Deleted, Truncated}
 use Rattle.pgledger.specs.declared.image.Image.TheVariants.{Missed}
 use Rattle.pgledger.specs.Images.{Line}
 use Rattle.pgledger.specs.Entries.{Entry}
 use Rattle.pgfeed.specs.declared.told.Told.{Told}
-use Rattle.pgjson.specs.Cells.{cells_data, list}
+use Rattle.pgjson.specs.Cells.{cells_data, hex_data, list}
 use Rattle.pgjson.specs.Messages.{integer, letter_data, natural, prior_data}
 
 -- blanks up to the line feed, so that the line has so many bytes
@@ -45,7 +48,7 @@ commit_size = 256
 
 -- the LSN at which a segment begins
 abbrev pub segment_front : ℕ → List ℕ
-segment_front base = codes "{\"feed\":3,\"base\":\"" ++ (lsn_text base ++ codes "\",")
+segment_front base = codes "{\"feed\":4,\"base\":\"" ++ (lsn_text base ++ codes "\",")
 
 -- what it is a feed of: the system's identifier, the database and the slot
 abbrev pub segment_rest : List ℕ → List ℕ → List ℕ → List ℕ
@@ -102,6 +105,27 @@ closing_object last = codes "{\"last\":\"" ++ (lsn_text last ++ codes "\"}")
 
 abbrev pub closing_line : ℕ → List ℕ
 closing_line last = padded commit_size (closing_object last)
+
+-- ---- the line of a message
+
+-- Bytes that are UTF-8 and have no zero byte are a text, as prefixes are.
+unfoldable pub is_text : List ℕ → Bool
+is_text bytes = is_utf8 bytes && not (list_any (λ b. b == 0) bytes)
+
+-- others are in hexadecimal
+unfoldable pub content_data : List ℕ → Data
+content_data content = if is_text content then string content else hex_data content
+
+-- where it is in the log, its prefix, and its bytes
+abbrev pub message_line : Heard → List ℕ
+message_line message =
+    codes "{\"op\":\"m\",\"lsn\":\"" ++ (lsn_text message.lsn ++ (codes "\",\"prefix\":" ++ (quoted message.prefix
+    ++ (codes ",\"content\":" ++ (compact_text (content_data message.content) ++ codes "}\n")))))
+
+-- of messages, one after the other
+unfoldable pub messages_text : List Heard → List ℕ
+messages_text [] = []
+messages_text (message ∷ messages) = message_line message ++ messages_text messages
 
 -- ---- the line of a definition
 
@@ -248,6 +272,15 @@ told_after told at n (line ∷ lines) =
     told_after (line_told told at line) (at + length (line_text told at n line)) (suc n) lines
 
 -- ---- an entry, with these lines
+
+-- The lines of an entry that begin at an offset, where these definitions are told: its messages,
+-- and then its changes.
+abbrev pub entry_body : List Told → ℕ → Entry → List ℕ
+entry_body told at e = messages_text e.messages ++ body_text told (at + length (messages_text e.messages)) 0 e.lines
+
+-- what is told behind them
+abbrev pub entry_told : List Told → ℕ → Entry → List Told
+entry_told told at e = told_after told (at + length (messages_text e.messages)) 0 e.lines
 
 -- The CRC-32 of an entry behind the commit that ends at this LSN: of its line up to the checksum,
 -- and then of all lines that follow. RFC 1952, section 8.

@@ -1,22 +1,25 @@
 //! The text of an entry.
 
-ghost use Rattle.std.specs.Prelude.{◌≡◌, ◌++◌, ◌+◌, IfOk, OnOk, Some, slice_get, string_bytes};
+ghost use Rattle.std.specs.Prelude.{◌≡◌, ◌++◌, ◌+◌, IfOk, OnOk, Some, length, slice_get};
+ghost use Rattle.std.specs.Prelude.{string_bytes};
 ghost use Rattle.std.specs.List.{AllByRecursion};
 ghost use Rattle.pgcrc.specs.Crc.{crc32};
 ghost use Rattle.pgapply.specs.Works.{IsNumbered, change_values};
 ghost use Rattle.pgledger.specs.Entries.{entry_of};
 ghost use Rattle.pgledger.specs.Images.{lines};
 ghost use Rattle.pgfeed.specs.Fits.{FitsEntry};
-ghost use Rattle.pgfeed.specs.Texts.{body_text, entry_text, fresh_text, line_of, line_text};
-ghost use Rattle.pgfeed.specs.Texts.{line_told, named, place, told_after, told_with};
+ghost use Rattle.pgfeed.specs.Texts.{body_text, entry_body, entry_text, entry_told, fresh_text};
+ghost use Rattle.pgfeed.specs.Texts.{line_of, line_text, line_told, messages_text, named, place};
+ghost use Rattle.pgfeed.specs.Texts.{told_after, told_with};
 
 use crate::changes::{Which, push_image};
 use crate::heads::{COMMIT_SIZE, commit_line, commit_told};
+use crate::messages::messages_text;
 use crate::tables::push_table;
 use crate::told::{Told, place};
 use pgapply::{ChangeRefs, Commit, Op};
 use pgcrc::Crc32;
-use pgledger::Image;
+use pgledger::{Heard, Image};
 use pglogical::RelationDef;
 use pglsn::Lsn;
 use std::alloc::{AllocError, Global};
@@ -81,24 +84,27 @@ fn push_line(
     push_image(alloc, Which { at, n }, image, &mut piece.text)
 }
 
-/// The lines of a commit's changes, which begin at this offset of the segment, with the definitions
-/// that aren't told there.
+/// The lines of a commit, which begin at this offset of the segment: its messages, and then its
+/// changes, with the definitions that aren't told there.
 fn body(
     alloc: Global,
     told: &[Told],
     start: usize,
+    messages: &[Heard],
     definitions: &[RelationDef],
     entries: &ChangeRefs<'_, '_>,
     images: &[Image<'_>],
 ) -> Result<Piece, AllocError>
     requires { AllByRecursion (IsNumbered definitions.now) entries.now }
-    ensures text { IfOk result (λ piece. string_bytes piece.text ≡ body_text told.now start 0
+    ensures text { IfOk result (λ piece. string_bytes piece.text ≡ messages_text messages.now
+        ++ body_text told.now (start + length (messages_text messages.now)) 0
         (lines (change_values definitions.now entries.now) images.now)) }
-    ensures told { IfOk result (λ piece. told.now ++ piece.told.items ≡ told_after told.now start 0
+    ensures told { IfOk result (λ piece. told.now ++ piece.told.items ≡ told_after told.now
+        (start + length (messages_text messages.now)) 0
         (lines (change_values definitions.now entries.now) images.now)) }
 {
     let mut piece = Piece {
-        text: String::new(alloc),
+        text: messages_text(alloc, messages)?,
         told: Vec::new(alloc),
     };
     for (n, (entry, image)) in entries.reborrow().zip(images).enumerate() {
@@ -123,23 +129,28 @@ fn crc_of(front: &str, rest: &str) -> u32
 
 /// The text of an entry after the commit that ends at `prev`, in a segment that has so many bytes
 /// and these definitions: the line of the commit, with the CRC-32 of what it tells and of all that
-/// follows, and then a line for each change, with the definitions of relations that aren't told.
+/// follows, then one for each message, and then one for each change, with the definitions of
+/// relations that aren't told.
 pub(crate) fn entry_text(
     alloc: Global,
     told: &[Told],
     size: usize,
     prev: Lsn,
+    messages: &[Heard],
     commit: &Commit<'_, '_>,
     images: &[Image<'_>],
 ) -> Result<Piece, AllocError>
     ensures text { IfOk result (λ piece. string_bytes piece.text ≡ entry_text prev
-        (entry_of commit.now.end commit.now.about commit.now.work.now.changes images.now)
-        (body_text told.now (size + 256) 0 (lines commit.now.work.now.changes images.now))) }
-    ensures told { IfOk result (λ piece. told.now ++ piece.told.items ≡ told_after told.now
-        (size + 256) 0 (lines commit.now.work.now.changes images.now)) }
+        (entry_of commit.now.end commit.now.about messages.now commit.now.work.now.changes
+        images.now) (entry_body told.now (size + 256) (entry_of commit.now.end commit.now.about
+        messages.now commit.now.work.now.changes images.now))) }
+    ensures told { IfOk result (λ piece. told.now ++ piece.told.items ≡ entry_told told.now
+        (size + 256) (entry_of commit.now.end commit.now.about messages.now
+        commit.now.work.now.changes images.now)) }
     ensures fits { OnOk result (FitsEntry prev
-        (entry_of commit.now.end commit.now.about commit.now.work.now.changes images.now)
-        (body_text told.now (size + 256) 0 (lines commit.now.work.now.changes images.now))) }
+        (entry_of commit.now.end commit.now.about messages.now commit.now.work.now.changes
+        images.now) (entry_body told.now (size + 256) (entry_of commit.now.end commit.now.about
+        messages.now commit.now.work.now.changes images.now))) }
 {
     let Some(start) = size.checked_add(COMMIT_SIZE) else {
         return Err(AllocError);
@@ -147,7 +158,7 @@ pub(crate) fn entry_text(
     let definitions = commit.work.definitions();
     let entries = commit.work.entries();
     let count = entries.len().min(images.len());
-    let body = body(alloc, told, start, definitions, &entries, images)?;
+    let body = body(alloc, told, start, messages, definitions, &entries, images)?;
     let lines = body.text.as_str();
     let front = commit_told(alloc, commit.end, prev, lines.len(), count, commit.about)?;
     let crc = crc_of(front.as_str(), lines);

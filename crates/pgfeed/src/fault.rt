@@ -1,4 +1,4 @@
-//! Why a feed isn't opened.
+//! Why a feed isn't opened, and why messages aren't told.
 
 use pgapply::StoreFault;
 use std::alloc::AllocError;
@@ -30,6 +30,53 @@ impl From<AllocError> for FeedFault {
 
     fn from(_error: AllocError) -> FeedFault {
         FeedFault::Memory
+    }
+}
+
+/// Why the messages of a transaction can't be told, so that its commit isn't accepted.
+#[derive(Clone, Copy)]
+pub(crate) enum MessageFault {
+    /// They have more bytes than the limit.
+    TooLong,
+    /// One came in a stream block, where the server doesn't tell which subtransaction wrote it.
+    Streamed,
+    /// Memory has run out.
+    Memory,
+}
+
+impl MessageFault {
+    /// What the operator is told beside the store's fault, if that isn't all.
+    pub(crate) fn text(self) -> Option<&'static str> {
+        match self {
+            MessageFault::TooLong => Some("feed 4 MessagesTooLong"),
+            MessageFault::Streamed => Some("feed 5 StreamedMessage"),
+            MessageFault::Memory => None,
+        }
+    }
+}
+
+impl From<AllocError> for MessageFault {
+    ghost use Rattle.std.specs.Prelude.{◌≡◌};
+    ghost use Rattle.pgfeed.specs.declared.fault.MessageFault.TheVariants.{Memory};
+
+    ghost from_gives = { λ _ fault. fault ≡ Memory };
+
+    fn from(_error: AllocError) -> MessageFault {
+        MessageFault::Memory
+    }
+}
+
+/// What a store is told of messages that are lost.
+impl From<MessageFault> for StoreFault {
+    ghost use Rattle.pgapply.specs.Stored.{IsOwnFault};
+
+    ghost from_gives = { λ _ of. IsOwnFault of };
+
+    fn from(fault: MessageFault) -> StoreFault {
+        match fault {
+            MessageFault::Memory => StoreFault::Memory,
+            MessageFault::TooLong | MessageFault::Streamed => StoreFault::Refused,
+        }
     }
 }
 

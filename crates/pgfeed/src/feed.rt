@@ -1,23 +1,25 @@
 //! A feed: segments that follow each other.
 
-ghost use Rattle.std.specs.Prelude.{◌≡◌, ◌<◌, ◌≤◌, ◌⊎◌, ◌↔◌, [], true, false, None};
-ghost use Rattle.std.specs.Prelude.{IsTrue, IfOk, OnOk, OnErr, IfErr, length};
+ghost use Rattle.std.specs.Prelude.{◌≡◌, ◌<◌, ◌≤◌, ◌⊎◌, ◌↔◌, [], true, false, None, Some};
+ghost use Rattle.std.specs.Prelude.{IsTrue, IfOk, IsSome, OnOk, OnErr, IfErr, is_some, length};
 ghost use Rattle.pgapply.specs.Stored.{IsOwnFault};
 ghost use Rattle.pgledger.specs.Entries.{entry_of};
-ghost use Rattle.pgledger.specs.Ledgers.{Appends, AppendsAtMost, Keeps, Rests, Syncs};
+ghost use Rattle.pgledger.specs.Ledgers.{Appends, AppendsAtMost, Hears, Keeps, Rests, Syncs};
 ghost use Rattle.pgfeed.specs.Feeds.{Ends, Goes, IsFull, IsHonestFeed, IsLate, IsOver, KeepsAll};
-ghost use Rattle.pgfeed.specs.Beside.{KeepsRest, LastsFrom};
+ghost use Rattle.pgfeed.specs.Beside.{KeepsRest, LastsFrom, is_stuck_feed};
 ghost use Rattle.pgfeed.specs.Feeds.{MayEnd, MayGoOver, ReopensAt, TakesAllBack};
-ghost use Rattle.pgfeed.specs.Feeds.{IsTimed, StaysTimed, first_time};
+ghost use Rattle.pgfeed.specs.Feeds.{HearsWithin, IsTimed, StaysTimed, first_time, heard_by};
+ghost use Rattle.pgfeed.specs.Hearing.{all_heard};
 ghost use Rattle.pgfeed.specs.Naming.{head_of};
 ghost use Rattle.pgfeed.specs.Next.{IsNext, next_text};
 
 use crate::entries::Piece;
-use crate::fault::FeedFault;
+use crate::fault::MessageFault;
 use crate::folder::{Folder, Names, SegmentLimits};
+use crate::hearing::Hearing;
 use crate::segment::Segment;
 use crate::segments::{begin_segment, close_all};
-use pgapply::{About, Commit, StoreFault};
+use pgapply::{About, Commit, LogicalMessage, StoreFault};
 use pgledger::{Image, Ledger, Supposing};
 use pglsn::Lsn;
 use std::alloc::Global;
@@ -48,6 +50,7 @@ pub struct Feed<F: Folder + Drop> {
     first: Option<i64>,
     names: Names,
     limits: SegmentLimits,
+    hearing: Hearing,
 }
 
 /// The first time that is known, else that of this commit.
@@ -79,6 +82,8 @@ impl<F: Folder + Drop> Feed<F> {
         ensures limits { result.limits ≡ limits }
         ensures folder { result.folder ≡ folder }
         ensures untimed { result.first ≡ None }
+        ensures unheard { all_heard result.hearing ≡ Some [] }
+        ensures within { HearsWithin result }
     {
         let synced = segment.last();
         Feed {
@@ -91,6 +96,7 @@ impl<F: Folder + Drop> Feed<F> {
             first: None,
             names,
             limits,
+            hearing: Hearing::new(alloc),
         }
     }
 
@@ -166,6 +172,7 @@ impl<F: Folder + Drop> Feed<F> {
         ensures first { self.new.first ≡ self.old.first }
         ensures limits { self.new.limits ≡ self.old.limits }
         ensures names { self.new.names ≡ self.old.names }
+        ensures hearing { self.new.hearing ≡ self.old.hearing }
     {
         let ended = std::mem::replace(&mut self.ended, Vec::new(self.alloc));
         close_all(&mut self.folder, ended);
@@ -186,6 +193,7 @@ impl<F: Folder + Drop> Feed<F> {
         ensures first { self.new.first ≡ self.old.first }
         ensures limits { self.new.limits ≡ self.old.limits }
         ensures names { self.new.names ≡ self.old.names }
+        ensures hearing { self.new.hearing ≡ self.old.hearing }
     {
         if self.synced == self.segment.last() {
             self.let_go();
@@ -214,6 +222,7 @@ impl<F: Folder + Drop> Feed<F> {
         ensures synced { self.new.synced ≡ self.old.synced }
         ensures limits { self.new.limits ≡ self.old.limits }
         ensures names { self.new.names ≡ self.old.names }
+        ensures hearing { self.new.hearing ≡ self.old.hearing }
         ensures fault { IfErr result IsOwnFault }
     {
         let base = self.segment.last();
@@ -254,6 +263,7 @@ impl<F: Folder + Drop> Feed<F> {
         ensures synced { self.new.synced ≡ self.old.synced }
         ensures limits { self.new.limits ≡ self.old.limits }
         ensures names { self.new.names ≡ self.old.names }
+        ensures hearing { self.new.hearing ≡ self.old.hearing }
         ensures fault { IfErr result IsOwnFault }
     {
         self.let_settled_go();
@@ -273,28 +283,32 @@ impl<F: Folder + Drop> Feed<F> {
         is_next: bool,
     ) -> Result<Piece, StoreFault>
         requires { IsTrue is_next → IsNext self.now.segment (entry_of commit.now.end
-            commit.now.about commit.now.work.now.changes images.now) piece }
+            commit.now.about (heard_by self.now) commit.now.work.now.changes images.now) piece }
         ensures next { IfOk result (IsNext self.now.segment (entry_of commit.now.end
-            commit.now.about commit.now.work.now.changes images.now)) }
+            commit.now.about (heard_by self.now) commit.now.work.now.changes images.now)) }
         ensures fault { IfErr result IsOwnFault }
     {
         if is_next {
             Ok(piece)
         } else {
-            self.segment.text(commit, images)
+            self.segment.text(self.hearing.messages(), commit, images)
         }
     }
 
-    /// Writes the text of a commit after the last one, or into the next segment.
+    /// Writes the text of a commit after the last one, or into the next segment, with the messages
+    /// that were heard.
     fn write(&mut self, commit: &Commit<'_, '_>, images: &[Image<'_>]) -> Result<(), StoreFault>
         requires { self.old.segment.is_stuck ≡ false }
         ensures goes { Goes F.File.seen F.File.may_leave F.File.is_clean F.is_true
             F.places F.has self.old self.new }
         ensures appended { OnOk result (Appends (KeepsAll F.File.seen F.File.may_leave
             F.File.is_clean F.is_true F.places F.has) (entry_of commit.now.end commit.now.about
-            commit.now.work.now.changes images.now) self.old self.new) }
+            (heard_by self.old) commit.now.work.now.changes images.now) self.old self.new) }
         ensures kept { OnErr result (Keeps (KeepsAll F.File.seen F.File.may_leave F.File.is_clean
             F.is_true F.places F.has) self.old self.new) }
+        ensures all_kept { OnOk result (IsSome (all_heard self.old.hearing)) }
+        ensures forgot { OnOk result (all_heard self.new.hearing ≡ Some []) }
+        ensures within { HearsWithin self.old → HearsWithin self.new }
         ensures first { OnOk result (IsTimed self.old.first self.new.first commit.now.about
             self.old.segment self.new.segment) }
         ensures limits { self.new.limits ≡ self.old.limits }
@@ -303,10 +317,10 @@ impl<F: Folder + Drop> Feed<F> {
         ensures over { (self.new.segment.base ≡ self.old.segment.base) ⊎
             IsOver self.old.limits.bytes self.old.limits.micros self.old.first self.old.segment
             commit.now.about (length (next_text self.old.segment (entry_of commit.now.end
-            commit.now.about commit.now.work.now.changes images.now))) }
+            commit.now.about (heard_by self.old) commit.now.work.now.changes images.now))) }
         ensures next { OnOk result (IsOver self.old.limits.bytes self.old.limits.micros
             self.old.first self.old.segment commit.now.about (length (next_text
-            self.old.segment (entry_of commit.now.end commit.now.about
+            self.old.segment (entry_of commit.now.end commit.now.about (heard_by self.old)
             commit.now.work.now.changes images.now))) →
             (self.new.segment.base ≡ self.old.segment.last)
             ⊎ MayGoOver MOST_ENDED self.old.synced self.old.ended.items self.old.segment) }
@@ -318,11 +332,13 @@ impl<F: Folder + Drop> Feed<F> {
         ensures names { self.new.names ≡ self.old.names }
         ensures fault { IfErr result IsOwnFault }
     {
-        let piece = self.segment.text(commit, images)?;
+        self.hearing.test()?;
+        let piece = self.segment.text(self.hearing.messages(), commit, images)?;
         let is_same = self.make_room(commit.about, piece.text.len())?;
         // the next segment has told nothing yet
         let piece = self.text(commit, images, piece, is_same)?;
         self.segment.put(commit.end, piece)?;
+        self.hearing.forget();
         self.first = first_time(self.first, commit.about);
         Ok(())
     }
@@ -351,6 +367,10 @@ impl<F: Folder + Drop> Ledger for Feed<F> {
 
     ghost is_wanting = { λ _. true };
 
+    ghost is_hearing = { λ l. is_some l.limits.messages };
+
+    ghost heard = { λ l. all_heard l.hearing };
+
     ghost reopens = { ReopensAt F.File.seen F.File.may_leave F.File.is_clean F.is_true F.places
         F.has };
 
@@ -362,18 +382,63 @@ impl<F: Folder + Drop> Ledger for Feed<F> {
         true
     }
 
-    /// Appends a commit. Where the open segment ends before it, the next one begins where the last
-    /// commit ends.
+    /// Keeps a message, if messages are told and it doesn't pass the limit. One that came in a
+    /// stream block leaves the feed stuck: nobody knows whether it survives.
+    fn hear(&mut self, message: &LogicalMessage<'_>)
+        ensures hears { is_some self.old.limits.messages ≡ true →
+            Hears is_stuck_feed (λ (l : Feed F F.File). all_heard l.hearing) message.now self.old
+            self.new }
+        ensures deaf { is_some self.old.limits.messages ≡ false → self.new ≡ self.old }
+        ensures within { HearsWithin self.old → HearsWithin self.new }
+        ensures limits { self.new.limits ≡ self.old.limits }
+        ensures was_free { self.new.segment.is_stuck ≡ false → self.old.segment.is_stuck ≡ false }
+        ensures kept { Keeps (KeepsRest F.File.seen F.File.may_leave F.File.is_clean F.is_true
+            F.places F.has) self.old self.new }
+        ensures rests { Rests (λ (l : Feed F F.File). 0) (λ (l : Feed F F.File). true)
+            (λ (l : Feed F F.File). is_some l.limits.messages)
+            (LastsFrom F.File.seen F.File.may_leave F.File.is_clean F.is_true F.places F.has)
+            (ReopensAt F.File.seen F.File.may_leave F.File.is_clean F.is_true F.places F.has)
+            self.old self.new }
+    {
+        let Some(limit) = self.limits.messages else {
+            return;
+        };
+        if message.is_streamed {
+            self.hearing.lose(MessageFault::Streamed);
+            self.segment.stop();
+            return;
+        }
+        self.hearing.hear(limit, message);
+    }
+
+    fn forget(&mut self)
+        ensures forgot { all_heard self.new.hearing ≡ Some [] }
+        ensures within { HearsWithin self.new }
+        ensures limits { self.new.limits ≡ self.old.limits }
+        ensures stuck { self.new.segment.is_stuck ≡ self.old.segment.is_stuck }
+        ensures kept { Keeps (KeepsRest F.File.seen F.File.may_leave F.File.is_clean F.is_true
+            F.places F.has) self.old self.new }
+        ensures rests { Rests (λ (l : Feed F F.File). 0) (λ (l : Feed F F.File). true)
+            (λ (l : Feed F F.File). is_some l.limits.messages)
+            (LastsFrom F.File.seen F.File.may_leave F.File.is_clean F.is_true F.places F.has)
+            (ReopensAt F.File.seen F.File.may_leave F.File.is_clean F.is_true F.places F.has)
+            self.old self.new }
+    {
+        self.hearing.forget();
+    }
+
+    /// Appends a commit, with the messages that were heard. Where the open segment ends before it,
+    /// the next one begins where the last commit ends.
     fn append(&mut self, commit: &Commit<'_, '_>, images: &[Image<'_>]) -> Result<(), StoreFault>
         ensures ends { MayEnd F.File.seen F.File.may_leave F.File.is_clean self.old.synced
             self.old.ended.items self.new.ended.items self.old.segment self.new.segment }
         ensures over { (self.new.segment.base ≡ self.old.segment.base) ⊎
             IsOver self.old.limits.bytes self.old.limits.micros self.old.first self.old.segment
             commit.now.about (length (next_text self.old.segment (entry_of commit.now.end
-            commit.now.about commit.now.work.now.changes images.now))) }
+            commit.now.about (heard_by self.old) commit.now.work.now.changes images.now))) }
         ensures next { OnOk result (IsOver self.old.limits.bytes self.old.limits.micros
             self.old.first self.old.segment commit.now.about (length (next_text
-            self.old.segment (entry_of commit.now.end commit.now.about
+            self.old.segment (entry_of commit.now.end commit.now.about (heard_by self.old)
             commit.now.work.now.changes images.now))) →
             (self.new.segment.base ≡ self.old.segment.last)
             ⊎ MayGoOver MOST_ENDED self.old.synced self.old.ended.items self.old.segment) }
@@ -386,7 +451,10 @@ impl<F: Folder + Drop> Ledger for Feed<F> {
         ensures names { self.new.names ≡ self.old.names }
         ensures appended { OnOk result (Appends (KeepsRest F.File.seen F.File.may_leave
             F.File.is_clean F.is_true F.places F.has) (entry_of commit.now.end commit.now.about
-            commit.now.work.now.changes images.now) self.old self.new) }
+            (heard_by self.old) commit.now.work.now.changes images.now) self.old self.new) }
+        ensures all_heard { OnOk result (IsSome (all_heard self.old.hearing)) }
+        ensures forgot { OnOk result (all_heard self.new.hearing ≡ Some []) }
+        ensures within { HearsWithin self.old → HearsWithin self.new }
         ensures was_free { OnOk result (self.old.segment.is_stuck ≡ false) }
         ensures free { OnOk result (self.new.segment.is_stuck ≡ false) }
         ensures refused { OnErr result (AppendsAtMost (KeepsRest F.File.seen F.File.may_leave
@@ -394,6 +462,7 @@ impl<F: Folder + Drop> Ledger for Feed<F> {
         ensures stuck { OnErr result (self.new.segment.is_stuck ≡ true) }
         ensures fault { IfErr result IsOwnFault }
         ensures rests { Rests (λ (l : Feed F F.File). 0) (λ (l : Feed F F.File). true)
+            (λ (l : Feed F F.File). is_some l.limits.messages)
             (LastsFrom F.File.seen F.File.may_leave F.File.is_clean F.is_true F.places F.has)
             (ReopensAt F.File.seen F.File.may_leave F.File.is_clean F.is_true F.places F.has)
             self.old self.new }
@@ -414,6 +483,8 @@ impl<F: Folder + Drop> Ledger for Feed<F> {
     fn sync(&mut self) -> Result<(), StoreFault>
         ensures up_to { OnOk result (self.new.synced ≡ self.new.segment.last) }
         ensures stays { OnErr result (self.new.synced ≡ self.old.synced) }
+        ensures heard { all_heard self.new.hearing ≡ all_heard self.old.hearing }
+        ensures within { HearsWithin self.old → HearsWithin self.new }
         ensures ended { self.new.ended.items ≡ self.old.ended.items }
         ensures base { self.new.segment.base ≡ self.old.segment.base }
         ensures last { self.new.segment.last ≡ self.old.segment.last }
@@ -431,6 +502,7 @@ impl<F: Folder + Drop> Ledger for Feed<F> {
         ensures stuck { OnErr result (self.new.segment.is_stuck ≡ true) }
         ensures fault { IfErr result IsOwnFault }
         ensures rests { Rests (λ (l : Feed F F.File). 0) (λ (l : Feed F F.File). true)
+            (λ (l : Feed F F.File). is_some l.limits.messages)
             (LastsFrom F.File.seen F.File.may_leave F.File.is_clean F.is_true F.places F.has)
             (ReopensAt F.File.seen F.File.may_leave F.File.is_clean F.is_true F.places F.has)
             self.old self.new }
@@ -442,6 +514,10 @@ impl<F: Folder + Drop> Ledger for Feed<F> {
 
     fn stick(&mut self) {
         self.segment.stop();
+    }
+
+    fn cause(&self) -> Option<&str> {
+        self.hearing.cause()
     }
 
     ghost cuts = { λ old new p told later opened kept ends lasting above. cut_ledger F.File.seen

@@ -19,7 +19,7 @@ pub struct Origin<'a> {
     pub slot: &'a str,
 }
 
-/// When a segment ends. Of both it is the first that is met.
+/// When a segment ends, by the first of two limits that is met, and which messages are told.
 #[derive(Clone, Copy, Debug, PartialEq, Eq)]
 pub struct SegmentLimits {
     /// How many bytes its head and its commits may have, unless it has a single commit. `u64::MAX`
@@ -28,6 +28,9 @@ pub struct SegmentLimits {
     /// The microseconds from the time of a commit of it to that of one which it doesn't accept any
     /// more. `u64::MAX` for never.
     pub micros: u64,
+    /// How many bytes the prefixes and contents of a transaction's messages may have. `u64::MAX`
+    /// for any number. None where no message is told.
+    pub messages: Option<u64>,
 }
 
 /// The folder of a feed: its segments, each a file that is named by the LSN at which it begins.

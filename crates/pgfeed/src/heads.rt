@@ -40,7 +40,7 @@ fn padded(mut text: String, size: usize) -> Result<String, AllocError>
 pub(crate) fn segment_front(alloc: Global, base: Lsn) -> Result<String, AllocError>
     ensures { IfOk result (λ text. string_bytes text ≡ segment_front base) }
 {
-    format!(in alloc; "{{\"feed\":3,\"base\":\"{base}\",")
+    format!(in alloc; "{{\"feed\":4,\"base\":\"{base}\",")
 }
 
 /// The head of a segment without blanks.

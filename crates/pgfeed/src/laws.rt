@@ -4,7 +4,7 @@ ghost use Rattle.std.specs.Prelude.{◌≡◌, ◌<◌, ◌^◌, ◌++◌, ℕ, 
 ghost use Rattle.pgapply.specs.declared.commit.About.{About};
 ghost use Rattle.pgfeed.specs.Fits.{FitsLine};
 ghost use Rattle.pgfeed.specs.Reading.{BeginsWith, ChangesNameDefinitions};
-ghost use Rattle.pgfeed.specs.Reading.{EntriesHaveTheirCrc, LinesLeadOver};
+ghost use Rattle.pgfeed.specs.Reading.{EntriesHaveTheirCrc, LinesLeadOver, MessagesAreTold};
 ghost use Rattle.pgfeed.specs.Reading.{TextIsReadInOneWay};
 ghost use Rattle.pgfeed.specs.Texts.{closing_line, commit_line};
 ghost use Rattle.pgfeed.specs.declared.mark.Mark.{Mark};
@@ -44,6 +44,12 @@ pub fn entries_have_their_crc()
 /// the commit, or in its lines. So who has the segment reads each commit alone.
 pub fn changes_name_definitions()
     ensures { ChangesNameDefinitions }
+{}
+
+/// The lines of a commit tell its messages, and in one way: commits with the same lines have the
+/// same messages, in the same order. No line of a change or a definition is taken for one.
+pub fn messages_are_told()
+    ensures { MessagesAreTold }
 {}
 
 /// A text is read in one way up to an LSN: its commits have these ends and lengths, and no others.

@@ -6,10 +6,11 @@
 //! a reader goes from commit to commit without reading more, and a CRC-32 of what stands before it
 //! and of these bytes. A line with the definition of a relation comes before its first change in a
 //! segment, and again where the definition changes, or the segment was opened anew. Each change
-//! names the offset of that line, so that a commit can be read alone.
+//! names the offset of that line, so that a commit can be read alone. Messages of a commit, where
+//! they are told, come before all of these.
 //!
 //! ```text
-//! {"feed":3,"base":"0/100","system":"7231","database":"shop","slot":"copy"}
+//! {"feed":4,"base":"0/100","system":"7231","database":"shop","slot":"copy"}
 //! {"end":"0/200","prev":"0/100","bytes":196,"changes":1,"lsn":"0/1D8","xid":739,"ts_us":16996848..
 //! {"op":"table","oid":16384,"schema":"public","table":"stock","identity":"d","key":["sku"],"colum..
 //! {"op":"c","at":1280,"n":0,"before":null,"after":["A-1","5"]}
@@ -40,8 +41,10 @@ mod fault;
 mod feed;
 mod folder;
 mod heads;
+mod hearing;
 mod laws;
 mod mark;
+mod messages;
 mod opening;
 mod segment;
 mod segments;
@@ -55,7 +58,7 @@ pub use folder::{Folder, Origin, SegmentLimits};
 pub use laws::{
     changes_name_definitions, entries_have_their_crc, feeds_lead_to_their_store,
     feeds_outlast_crashes, lines_lead_over_entries, lines_of_commits_fit, lines_tell_whole_rows,
-    lines_that_end_segments, text_is_read_in_one_way,
+    lines_that_end_segments, messages_are_told, text_is_read_in_one_way,
 };
 pub use mark::Mark;
 pub use segment::Segment;

@@ -13,13 +13,14 @@ ghost use Rattle.pgfeed.specs.Next.{FitsNext, IsNext, Remembers, next_text, next
 use crate::entries::{Piece, entry_text};
 use crate::heads::closing_line;
 use crate::told::{Told, remember};
-use pgapply::{Commit, StoreFault};
-use pgledger::{Image, Ledger};
+use pgapply::{Commit, LogicalMessage, StoreFault};
+use pgledger::{Heard, Image, Ledger};
 use pglsn::Lsn;
 use sqlite_disk::Disk;
 use std::alloc::Global;
 
 /// A segment of a feed: a ledger over one file, which has a head, and then the text of each commit.
+/// As a ledger it tells no messages.
 ///
 /// A write that fails may leave a rest after the commits. It is truncated where the segment is
 /// opened again, at the position of the store.
@@ -107,25 +108,29 @@ impl<D: Disk + Drop> Segment<D> {
         self.disk
     }
 
-    /// The text of a commit after the last one, and the definitions that it tells.
+    /// The text of a commit with these messages after the last one, and the definitions that it
+    /// tells.
     ///
     /// # Errors
     ///
     /// `Refused` where it doesn't end after the last one, and `Memory`.
     pub(crate) fn text(
         &self,
+        messages: &[Heard],
         commit: &Commit<'_, '_>,
         images: &[Image<'_>],
     ) -> Result<Piece, StoreFault>
         ensures next { IfOk result (IsNext self.now (entry_of commit.now.end commit.now.about
-            commit.now.work.now.changes images.now)) }
+            messages.now commit.now.work.now.changes images.now)) }
         ensures fault { IfErr result IsOwnFault }
     {
         if commit.end <= self.last {
             return Err(StoreFault::Refused);
         }
         let told = self.told.as_slice();
-        Ok(entry_text(self.alloc, told, self.size, self.last, commit, images)?)
+        Ok(entry_text(
+            self.alloc, told, self.size, self.last, messages, commit, images,
+        )?)
     }
 
     /// Writes the text of a commit, which ends there, after the last one.
@@ -169,15 +174,15 @@ impl<D: Disk + Drop> Segment<D> {
     fn write(&mut self, commit: &Commit<'_, '_>, images: &[Image<'_>]) -> Result<(), StoreFault>
         ensures above { OnOk result (self.old.last < commit.now.end) }
         ensures fits { OnOk result (FitsNext self.old (entry_of commit.now.end
-            commit.now.about commit.now.work.now.changes images.now)) }
+            commit.now.about [] commit.now.work.now.changes images.now)) }
         ensures text { OnOk result (Holds (D.seen self.new.disk) self.old.size (next_text
-            self.old (entry_of commit.now.end commit.now.about
+            self.old (entry_of commit.now.end commit.now.about []
             commit.now.work.now.changes images.now))) }
         ensures size { OnOk result (self.new.size ≡ self.old.size + length (next_text
-            self.old (entry_of commit.now.end commit.now.about
+            self.old (entry_of commit.now.end commit.now.about []
             commit.now.work.now.changes images.now))) }
         ensures told { OnOk result (Remembers (next_told self.old (entry_of commit.now.end
-            commit.now.about commit.now.work.now.changes images.now)) self.new.told.items) }
+            commit.now.about [] commit.now.work.now.changes images.now)) self.new.told.items) }
         ensures last { OnOk result (self.new.last ≡ commit.now.end) }
         ensures undone { OnErr result ((self.new.size ≡ self.old.size)
             × (self.new.last ≡ self.old.last)) }
@@ -188,7 +193,7 @@ impl<D: Disk + Drop> Segment<D> {
         ensures stuck { self.new.is_stuck ≡ self.old.is_stuck }
         ensures fault { IfErr result IsOwnFault }
     {
-        let piece = self.text(commit, images)?;
+        let piece = self.text(&[], commit, images)?;
         self.put(commit.end, piece)
     }
 
@@ -267,7 +272,7 @@ impl<D: Disk + Drop> Segment<D> {
 }
 
 impl<D: Disk + Drop> Ledger for Segment<D> {
-    ghost use Rattle.std.specs.Prelude.{true, false};
+    ghost use Rattle.std.specs.Prelude.{[], true, false, Some};
     ghost use Rattle.pgfeed.specs.Segments.{KeepsEntries, Lasts, Reopens};
     ghost use Rattle.pgfeed.specs.Cutting.Opened.{cut_at, wants_all};
 
@@ -282,6 +287,10 @@ impl<D: Disk + Drop> Ledger for Segment<D> {
 
     ghost is_wanting = { λ _. true };
 
+    ghost is_hearing = { λ _. false };
+
+    ghost heard = { λ _. Some [] };
+
     ghost reopens = { λ l p other. Reopens l.base l.size (D.Disk.may_leave l.disk) p other.base
         other.last other.size other.told.items (D.Disk.seen other.disk)
         (D.Disk.may_leave other.disk) };
@@ -293,6 +302,10 @@ impl<D: Disk + Drop> Ledger for Segment<D> {
     fn wants(&self) -> bool {
         true
     }
+
+    fn hear(&mut self, _message: &LogicalMessage<'_>) {}
+
+    fn forget(&mut self) {}
 
     fn append(&mut self, commit: &Commit<'_, '_>, images: &[Image<'_>]) -> Result<(), StoreFault> {
         if self.is_stuck {

@@ -7,7 +7,8 @@ ghost use Rattle.std.specs.List.{AllByRecursion};
 ghost use Rattle.pgfeed.specs.declared.fault.FeedFault.TheVariants.{NotAFeed};
 ghost use Rattle.pgfeed.specs.Folders.{AreBelow, IsOther, IsRefusal, MakesAtMost, RemovesAll};
 ghost use Rattle.pgfeed.specs.Folders.{Stays, StaysElse};
-ghost use Rattle.pgfeed.specs.Feeds.{CutsIn, IsFresh, OpenedFrom, OpensIn, TakesAllBack};
+ghost use Rattle.pgfeed.specs.Feeds.{CutsIn, HearsWithin, IsFresh, OpenedFrom, OpensIn};
+ghost use Rattle.pgfeed.specs.Feeds.{TakesAllBack};
 ghost use Rattle.pgfeed.specs.Naming.{IsOf, head_of};
 ghost use Rattle.pgfeed.specs.Segments.{HasHead};
 ghost use Rattle.pgfeed.specs.Texts.{segment_object};
@@ -181,6 +182,7 @@ impl<F: Folder + Drop> Feed<F> {
         ensures told { IfOk result (λ f. IsOf f.names origin.now.system.now
             origin.now.database.now origin.now.slot.now) }
         ensures limits { IfOk result (λ f. f.limits ≡ limits) }
+        ensures within { IfOk result HearsWithin }
         ensures untouched { IfErr result (λ e. e.0 ≡ NotAFeed → F.is_true e.1 →
             Stays F.has F.is_true F.places folder e.1) }
         ensures room { OnOk result (length (segment_object (2 ^ 64 - 1) origin.now.system.now

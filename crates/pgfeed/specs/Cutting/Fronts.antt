@@ -11,11 +11,12 @@ use Rattle.pglsn.proofs.Printed.{text_reads}
 use Rattle.pglsn.proofs.Halves.{one_reading}
 use Rattle.pgfeed.specs.Texts.{commit_front}
 
-abbrev Lacks : ℕ → List ℕ → Type 0
+abbrev pub Lacks : ℕ → List ℕ → Type 0
 Lacks stop text = AllByRecursion (λ c. c ≢ stop) text
 
 -- what stands before the first such byte, and what behind it
-first_stop : (stop : ℕ) (xs ys vs ws : List ℕ) → Lacks stop xs → Lacks stop ys → xs ++ stop ∷ vs ≡ ys ++ stop ∷ ws → (xs ≡ ys) × (vs ≡ ws)
+pub first_stop : (stop : ℕ) (xs ys vs ws : List ℕ) → Lacks stop xs → Lacks stop ys → xs ++ stop ∷ vs ≡ ys ++ stop ∷ ws
+    → (xs ≡ ys) × (vs ≡ ws)
 first_stop stop [] [] vs ws free none e = (refl, cc)
 first_stop stop [] (y ∷ ys) vs ws free none e = let at : y ≡ stop = cc in absurd (none.0 at)
 first_stop stop (x ∷ xs) [] vs ws free none e = let at : x ≡ stop = cc in absurd (free.0 at)
@@ -36,7 +37,7 @@ digits_lack base stop (c ∷ text) free digits = (
   digits_lack base stop text free digits.1,
 )
 
-lsn_lacks : (n : ℕ) → n < 2 ^ 64 → Lacks 34 (lsn_text n)
+pub lsn_lacks : (n : ℕ) → n < 2 ^ 64 → Lacks 34 (lsn_text n)
 lsn_lacks n small =
     let reads = text_reads n small in
     let high = digits_lack 16 34 reads.high (omega arith) reads.high_part.digits in
@@ -47,7 +48,7 @@ lsn_lacks n small =
 decimal_lacks : (n : ℕ) → n < 2 ^ 64 → Lacks 44 (decimal n)
 decimal_lacks n small = digits_lack 10 44 (decimal n) (omega arith) (decimal_is_IsNumeral n small).0.1
 
-lsn_injective : (m n : ℕ) → m < 2 ^ 64 → n < 2 ^ 64 → lsn_text m ≡ lsn_text n → m ≡ n
+pub lsn_injective : (m n : ℕ) → m < 2 ^ 64 → n < 2 ^ 64 → lsn_text m ≡ lsn_text n → m ≡ n
 lsn_injective m n small few e =
     one_reading (lsn_text m) m n (text_reads m small) (subst (λ text. ReadsAs text n) (sym e) (text_reads n few))
 

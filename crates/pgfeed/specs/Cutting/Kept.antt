@@ -7,7 +7,7 @@ use Rattle.pgledger.specs.Entries.{Entry, last_end}
 use Rattle.pgfeed.specs.Fits.{FitsEntry}
 use Rattle.pgfeed.specs.Reading.{AreEntries}
 use Rattle.pgfeed.specs.Segments.{KeepsEntries}
-use Rattle.pgfeed.specs.Texts.{body_text, entries_text, entry_text, told_after}
+use Rattle.pgfeed.specs.Texts.{entries_text, entry_body, entry_text, entry_told}
 use Rattle.pgfeed.specs.declared.told.Told.{Told}
 use Rattle.pgfeed.specs.Cutting.Written.{written_more}
 use Rattle.pgfeed.specs.Cutting.Files.{front_of, holds_behind, torn_before}
@@ -67,12 +67,12 @@ kept_behind base last size n told old new es k torn = record {
 -- it keeps one more that is written behind them
 pub kept_more : (base last size more n : ℕ) (told : List Told) (old new : List ℕ) (es : List Entry) (e : Entry)
     → KeepsEntries base last size told old es → Torn size n old new
-    → Holds new size (entry_text last e (body_text told (size + 256) 0 e.lines)) → last < e.end
-    → FitsEntry last e (body_text told (size + 256) 0 e.lines)
-    → more ≡ size + length (entry_text last e (body_text told (size + 256) 0 e.lines))
-    → KeepsEntries base e.end more (told_after told (size + 256) 0 e.lines) new (es ++ e ∷ [])
+    → Holds new size (entry_text last e (entry_body told (size + 256) e)) → last < e.end
+    → FitsEntry last e (entry_body told (size + 256) e)
+    → more ≡ size + length (entry_text last e (entry_body told (size + 256) e))
+    → KeepsEntries base e.end more (entry_told told (size + 256) e) new (es ++ e ∷ [])
 kept_more base last size more n told old new es e k torn holds above fits long =
-    let body : List ℕ = body_text told (size + 256) 0 e.lines in
+    let body : List ℕ = entry_body told (size + 256) e in
     let text : List ℕ = entry_text last e body in
     let rest : List ℕ = drop (size + length text) new in
     let before : List ℕ = entries_text k.bodies base es in

@@ -10,8 +10,9 @@ use Rattle.pgledger.specs.Entries.{Entry, last_end}
 use Rattle.pgfeed.specs.declared.told.Told.{Told}
 use Rattle.pgfeed.specs.Fits.{FitsEntry}
 use Rattle.pgfeed.specs.Reading.{AreEntries, AreWritten, IsBody, Stands}
-use Rattle.pgfeed.specs.Texts.{Bodies, body_text, entries_text, entry_line, entry_text, fresh_text}
-use Rattle.pgfeed.specs.Texts.{line_text, line_told, place, table_line, told_after, told_with}
+use Rattle.pgfeed.specs.Texts.{Bodies, body_text, entries_text, entry_body, entry_line, entry_text}
+use Rattle.pgfeed.specs.Texts.{entry_told, fresh_text, line_text, line_told, messages_text, place}
+use Rattle.pgfeed.specs.Texts.{table_line, told_after, told_with}
 use Rattle.pgfeed.specs.Cutting.Walking.{entry_splits, next_entry, no_entry, own_length}
 
 -- ---- definitions
@@ -161,13 +162,13 @@ one_text bodies at e =
 
 -- what is written behind entries, with definitions that stand in them
 pub next_body_is : (front : List ℕ) (at size : ℕ) (e : Entry) (told : List Told) → size ≡ length front
-    → AllByRecursion (Stands front) told → FitsEntry at e (body_text told (size + 256) 0 e.lines)
-    → IsBody (front ++ entry_line at e (body_text told (size + 256) 0 e.lines)) e (body_text told (size + 256) 0 e.lines)
+    → AllByRecursion (Stands front) told → FitsEntry at e (entry_body told (size + 256) e)
+    → IsBody (front ++ entry_line at e (entry_body told (size + 256) e)) e (entry_body told (size + 256) e)
 next_body_is front at size e told long stand fits =
-    let body : List ℕ = body_text told (size + 256) 0 e.lines in
+    let body : List ℕ = entry_body told (size + 256) e in
     let line : List ℕ = entry_line at e body in
     let offset : size + 256 ≡ length (front ++ line) = omega (arith, long, own_length at e body fits, length-append front line) in
-    record { told = told; stand = all_stand_more front line told stand; body_is = ap (λ k. body_text told k 0 e.lines) offset }
+    record { told = told; stand = all_stand_more front line told stand; body_is = ap (λ k. entry_body told k e) offset }
 
 -- One commit more is written behind these, and the definitions that are told then stand there.
 pub record WrittenMore (bodies : Bodies) (front : List ℕ) (at : ℕ) (es : List Entry) (e : Entry) (body : List ℕ) (told : List Told) :
@@ -181,10 +182,10 @@ pub written_more : (bodies : Bodies) (front : List ℕ) (at size : ℕ) (es : Li
     → AreEntries at es → last_end at es < e.end → AreWritten bodies front at es
     → size ≡ length (front ++ entries_text bodies at es)
     → AllByRecursion (Stands (front ++ entries_text bodies at es)) told
-    → FitsEntry (last_end at es) e (body_text told (size + 256) 0 e.lines)
-    → WrittenMore bodies front at es e (body_text told (size + 256) 0 e.lines) (told_after told (size + 256) 0 e.lines)
+    → FitsEntry (last_end at es) e (entry_body told (size + 256) e)
+    → WrittenMore bodies front at es e (entry_body told (size + 256) e) (entry_told told (size + 256) e)
 written_more bodies front at size es e told are less written long stand fits =
-    let body : List ℕ = body_text told (size + 256) 0 e.lines in
+    let body : List ℕ = entry_body told (size + 256) e in
     let last : ℕ = last_end at es in
     let more : Bodies = with_body bodies e.end body in
     let before : List ℕ = front ++ entries_text bodies at es in
@@ -199,11 +200,15 @@ written_more bodies front at size es e told are less written long stand fits =
     let one : AreWritten more before last (e ∷ []) =
     subst (λ b. FitsEntry last e b × IsBody (before ++ entry_line last e b) e b × AreWritten more (before ++ entry_text last e b) e.end [])
     (sym there) (fits, next_body_is before last size e told long stand fits, tt) in
-    let offset : length (before ++ line) ≡ size + 256 =
-    omega (arith, long, own_length last e body fits, length-append before line) in
-    let stands : AllByRecursion (Stands ((before ++ line) ++ body)) (told_after told (size + 256) 0 e.lines) =
-    subst (λ k. AllByRecursion (Stands ((before ++ line) ++ body_text told k 0 e.lines)) (told_after told k 0 e.lines)) offset
-    (told_stand (before ++ line) told 0 e.lines (all_stand_more before line told stand)) in
+    let heard : List ℕ = messages_text e.messages in
+    let changes : List ℕ = body_text told (size + 256 + length heard) 0 e.lines in
+    let offset : length ((before ++ line) ++ heard) ≡ size + 256 + length heard =
+    omega (arith, long, own_length last e body fits, length-append before line, length-append (before ++ line) heard) in
+    let stands : AllByRecursion (Stands ((before ++ line) ++ body)) (entry_told told (size + 256) e) =
+    subst (λ xs. AllByRecursion (Stands xs) (entry_told told (size + 256) e)) (append_assoc (before ++ line) heard changes)
+    (subst (λ k. AllByRecursion (Stands (((before ++ line) ++ heard) ++ body_text told k 0 e.lines)) (told_after told k 0 e.lines)) offset
+    (told_stand ((before ++ line) ++ heard) told 0 e.lines
+    (all_stand_more (before ++ line) heard told (all_stand_more before line told stand)))) in
     let whole : (before ++ line) ++ body ≡ front ++ entries_text more at (es ++ e ∷ []) =
     append_assoc before line body ∙ ap (λ xs. before ++ xs) (sym (entry_splits last e body))
     ∙ append_assoc front (entries_text bodies at es) (entry_text last e body) ∙ ap (λ xs. front ++ xs) (sym text) in
@@ -212,5 +217,5 @@ written_more bodies front at size es e told are less written long stand fits =
       text = text;
       written = written_append more front at es (e ∷ []) (same_written bodies more front at es same written)
           (subst (λ xs. AreWritten more (front ++ xs) last (e ∷ [])) (sym texts) one);
-      stand = subst (λ xs. AllByRecursion (Stands xs) (told_after told (size + 256) 0 e.lines)) whole stands;
+      stand = subst (λ xs. AllByRecursion (Stands xs) (entry_told told (size + 256) e)) whole stands;
     }

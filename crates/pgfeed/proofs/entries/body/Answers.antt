@@ -11,7 +11,8 @@ loop-n-preserved c =
     let steps = c.in-Some.ensures.steps in
     let numbered = subst (AllByRecursion (IsNumbered c.args.definitions.now)) steps.0.0 c.loop-n.invariant.numbered in
     let done = c.in_ok-push_line.ensures in
-    let offset : c.in-Some-checked_add.at ≡ c.args.start + length (string_bytes c.loop-n.piece.text) = omega arith in
+    let offset : c.in-Some-checked_add.at ≡ c.args.start + length (string_bytes c.loop-n.piece.text) =
+    omega (arith, c.in-Some-checked_add.ensures, c.len.ensures) in
     record {
       text = change_step _ _ _ _ _ _ _ _ _ _ _ _ _ _ _ _ _ _ c.loop-n.invariant.text steps.0.0 steps.0.1 c.defined-def.ensures offset
           done.text done.told steps.1 steps.2;

@@ -4,7 +4,7 @@ use Rattle.std.specs.Slice.Iter.{iter_rest}
 use Rattle.std.specs.Iterator.Adapters.{enumerate_count, enumerate_source, zip_first, zip_second}
 use Rattle.pgapply.specs.Works.{IsNumbered, change_values}
 use Rattle.pgledger.specs.Images.{lines}
-use Rattle.pgfeed.specs.Texts.{body_text, told_after}
+use Rattle.pgfeed.specs.Texts.{body_text, messages_text, told_after}
 use Rattle.pgfeed.proofs.entries.body.Given as goal
 
 abbrev pub invariant-loop-n : goal.invariant-loop-n
@@ -13,10 +13,11 @@ invariant-loop-n l = record {
       (enumerate_count l.n-iterator)
       (lines (change_values l.definitions (zip_first (enumerate_source l.n-iterator)))
       (iter_rest (zip_second (enumerate_source l.n-iterator))))
-      ≡ body_text l.told l.start 0 (lines (change_values l.definitions l.entries) l.images);
+      ≡ messages_text l.messages
+      ++ body_text l.told (l.start + length (messages_text l.messages)) 0 (lines (change_values l.definitions l.entries) l.images);
   told : told_after (l.told ++ l.piece.told.items) (l.start + length (string_bytes l.piece.text)) (enumerate_count l.n-iterator)
       (lines (change_values l.definitions (zip_first (enumerate_source l.n-iterator)))
       (iter_rest (zip_second (enumerate_source l.n-iterator))))
-      ≡ told_after l.told l.start 0 (lines (change_values l.definitions l.entries) l.images);
+      ≡ told_after l.told (l.start + length (messages_text l.messages)) 0 (lines (change_values l.definitions l.entries) l.images);
   numbered : AllByRecursion (IsNumbered l.definitions) (zip_first (enumerate_source l.n-iterator));
 }

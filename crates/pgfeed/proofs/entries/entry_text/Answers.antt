@@ -5,7 +5,7 @@ use Rattle.pgledger.specs.Images.{lines}
 use Rattle.pgapply.specs.Works.{change_values}
 use Rattle.pgcrc.specs.Crc.{crc32}
 use Rattle.pgfeed.specs.Cutting.Widths.{told_width}
-use Rattle.pgfeed.specs.Texts.{body_text, commit_told, crc_text, padded, told_after}
+use Rattle.pgfeed.specs.Texts.{body_text, commit_told, crc_text, messages_text, padded, told_after}
 use Rattle.pgfeed.proofs.Bodies.{entry_fits, entry_is, told_of}
 use Rattle.pgfeed.proofs.entries.entry_text.Goals as goal
 
@@ -29,19 +29,21 @@ returns c =
     c.in_ok-push_str.ensures.bytes in
     let defs = c.args.commit.now.work.now.definitions in
     let them = lines (change_values defs c.entries-entries.result) c.args.images.now in
-    let body : own ≡ body_text c.args.told.now (c.args.size + 256) 0 them =
+    let heard : List ℕ = messages_text c.args.messages.now in
+    let body : own ≡ heard ++ body_text c.args.told.now (c.args.size + 256 + length heard) 0 them =
     (rw c.definitions-definitions.ensures.definitions at c.in_ok-body.ensures.text)
-    ∙ ap (λ k. body_text c.args.told.now k 0 them) start in
-    let told : c.args.told.now ++ c.in_ok-body.body.told.items ≡ told_after c.args.told.now (c.args.size + 256) 0 them =
+    ∙ ap (λ k. heard ++ body_text c.args.told.now (k + length heard) 0 them) start in
+    let told : c.args.told.now ++ c.in_ok-body.body.told.items
+    ≡ told_after c.args.told.now (c.args.size + 256 + length heard) 0 them =
     (rw c.definitions-definitions.ensures.definitions at c.in_ok-body.ensures.told)
-    ∙ ap (λ k. told_after c.args.told.now k 0 them) start in
+    ∙ ap (λ k. told_after c.args.told.now (k + length heard) 0 them) start in
     let many = rw c.len.ensures at c.min-count.ensures in
     let made = c.entries-entries.ensures.changes in
     let numbered = c.entries-entries.ensures.numbered in
     record {
-      text = entry_is _ _ front own _ _ _ _ _ _ _ defs c.entries-entries.result _ _ made numbered body many
+      text = entry_is _ _ front own _ _ _ _ _ _ _ c.args.messages.now defs c.entries-entries.result _ _ made numbered body many
           (rw c.as_str-lines.ensures.value at tells) sums head (rw c.as_str-lines.ensures.value at whole);
       told = told_of _ _ _ defs c.entries-entries.result _ _ made told;
-      fits = entry_fits own _ _ _ _ _ _ _ defs c.entries-entries.result _ _ made numbered body many (ap length c.as_str-lines.ensures.value)
-          c.in_ok-front.ensures.fits;
+      fits = entry_fits own _ _ _ _ _ _ _ c.args.messages.now defs c.entries-entries.result _ _ made numbered body many
+          (ap length c.as_str-lines.ensures.value) c.in_ok-front.ensures.fits;
     }

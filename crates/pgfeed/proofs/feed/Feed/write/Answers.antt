@@ -1,10 +1,18 @@
-use Rattle.std.proofs.Common.{List, arith, refl}
-use Rattle.pgledger.specs.Entries.{Entry, entry_of}
+use Rattle.std.proofs.Common.{List, arith, refl, subst}
+use Rattle.pgledger.specs.Entries.{Entry, entry_of, messages_of}
+use Rattle.pgfeed.specs.declared.hearing.Hearing.{Hearing}
+use Rattle.pgfeed.specs.Hearing.{all_heard}
+use Rattle.pgfeed.specs.Next.{IsNext}
 use Rattle.pgfeed.proofs.Ending.{ends_same, timed}
 use Rattle.pgfeed.proofs.Following.{Adds, Writes, adds_piece, all_more, all_quiet, goes_end}
-use Rattle.pgfeed.proofs.Following.{goes_on_by, goes_quiet}
+use Rattle.pgfeed.proofs.Following.{goes_nowhere, goes_on_by, goes_quiet}
 use Rattle.pgfeed.proofs.Following.{on_err, writes_line}
 use Rattle.pgfeed.proofs.feed.Feed.write.Goals as goal
+
+pub returns-in_err-test-clause-goes : goal.returns-in_err-test-clause-goes
+returns-in_err-test-clause-goes g c =
+    goes_nowhere g.F.File.Disk.seen g.F.File.Disk.may_leave g.F.File.Disk.is_clean g.F.Folder.is_true g.F.Folder.places g.F.Folder.has
+    c.args.self.now
 
 pub returns-in_err-put-clause-goes : goal.returns-in_err-put-clause-goes
 returns-in_err-put-clause-goes g c =
@@ -36,10 +44,13 @@ pub returns-clause-goes : goal.returns-clause-goes
 returns-clause-goes g c =
     let done = c.in_ok-put.ensures in
     let room = c.in_ok-is_same.ensures in
-    let e : Entry = entry_of c.args.commit.now.end c.args.commit.now.about c.args.commit.now.work.now.changes c.args.images.now in
+    let told : Hearing → Entry = λ h. entry_of c.args.commit.now.end c.args.commit.now.about (messages_of (all_heard h))
+    c.args.commit.now.work.now.changes c.args.images.now in
+    let e : Entry = told c.args.self.now.hearing in
     let adds : Adds g.F.File.Disk.seen c.make_room.new.self.segment c.put.new.self e =
     adds_piece g.F.File.Disk.seen c.make_room.new.self.segment c.put.new.self e c.in_ok-piece-2.piece
-    c.in_ok-piece-2.ensures.next done.written done.size done.last done.told in
+    (subst (λ h. IsNext c.make_room.new.self.segment (told h) c.in_ok-piece-2.piece) room.hearing c.in_ok-piece-2.ensures.next)
+    done.written done.size done.last done.told in
     let writes : Writes g.F.File.Disk.seen g.F.File.Disk.may_leave c.make_room.new.self.segment c.put.new.self = record {
       base_is = done.base;
       size_up = omega (arith, done.size);
@@ -56,10 +67,13 @@ pub returns-clause-appended : goal.returns-clause-appended
 returns-clause-appended g c = λ es kept.
     let done = c.in_ok-put.ensures in
     let room = c.in_ok-is_same.ensures in
-    let e : Entry = entry_of c.args.commit.now.end c.args.commit.now.about c.args.commit.now.work.now.changes c.args.images.now in
+    let told : Hearing → Entry = λ h. entry_of c.args.commit.now.end c.args.commit.now.about (messages_of (all_heard h))
+    c.args.commit.now.work.now.changes c.args.images.now in
+    let e : Entry = told c.args.self.now.hearing in
     let adds : Adds g.F.File.Disk.seen c.make_room.new.self.segment c.put.new.self e =
     adds_piece g.F.File.Disk.seen c.make_room.new.self.segment c.put.new.self e c.in_ok-piece-2.piece
-    c.in_ok-piece-2.ensures.next done.written done.size done.last done.told in
+    (subst (λ h. IsNext c.make_room.new.self.segment (told h) c.in_ok-piece-2.piece) room.hearing c.in_ok-piece-2.ensures.next)
+    done.written done.size done.last done.told in
     let writes : Writes g.F.File.Disk.seen g.F.File.Disk.may_leave c.make_room.new.self.segment c.put.new.self = record {
       base_is = done.base;
       size_up = omega (arith, done.size);

@@ -2,6 +2,7 @@ use Rattle.std.proofs.Common.{◌≡◌, ◌∙◌, ap, refl, sym, subst}
 use Rattle.std.specs.Prelude.{IsTrue}
 use Rattle.pgfeed.specs.declared.segment.Segment.{Segment}
 use Rattle.pgledger.specs.Entries.{entry_of}
+use Rattle.pgfeed.specs.Feeds.{heard_by}
 use Rattle.pgfeed.proofs.Beside.{rest_appends, rest_at_most, rest_rests}
 use Rattle.pgfeed.proofs.Ending.{ends_same}
 use Rattle.pgfeed.proofs.Following.{all_stays, goes_on_by, goes_stays, true_false}
@@ -12,14 +13,15 @@ pub returns-in-Ok-clause-rests : goal.returns-in-Ok-clause-rests
 returns-in-Ok-clause-rests g c =
     let done = c.in-Ok.ensures in
     rest_rests g.F.File.Disk.seen g.F.File.Disk.may_leave g.F.File.Disk.is_clean g.F.Folder.is_true g.F.Folder.places
-    g.F.Folder.has c.args.self.now c.write.new.self done.begins done.goes
+    g.F.Folder.has c.args.self.now c.write.new.self done.begins done.limits done.goes
 
 pub returns-in-Ok-clause-appended : goal.returns-in-Ok-clause-appended
 returns-in-Ok-clause-appended g c =
     let done = c.in-Ok.ensures in
     rest_appends g.F.File.Disk.seen g.F.File.Disk.may_leave g.F.File.Disk.is_clean g.F.Folder.is_true g.F.Folder.places
     g.F.Folder.has c.args.self.now c.write.new.self done.begins
-    (entry_of c.args.commit.now.end c.args.commit.now.about c.args.commit.now.work.now.changes c.args.images.now) done.appended
+    (entry_of c.args.commit.now.end c.args.commit.now.about (heard_by c.args.self.now) c.args.commit.now.work.now.changes
+    c.args.images.now) done.appended
 
 pub returns-in-Err-clause-refused : goal.returns-in-Err-clause-refused
 returns-in-Err-clause-refused g c =
@@ -66,7 +68,7 @@ returns-in-Err-clause-rests g c =
       stuck = λ free. absurd (true_false (sym (ap (λ (s : Segment g.row.F-File.Denot). s.is_stuck) c.stop.ensures) ∙ free));
     })) in
     rest_rests g.F.File.Disk.seen g.F.File.Disk.may_leave g.F.File.Disk.is_clean g.F.Folder.is_true g.F.Folder.places
-    g.F.Folder.has c.args.self.now (record c.write.new.self { segment = c.stop.new.self }) failed.begins goes
+    g.F.Folder.has c.args.self.now (record c.write.new.self { segment = c.stop.new.self }) failed.begins failed.limits goes
 
 pub returns-in-Err-clause-ends : goal.returns-in-Err-clause-ends
 returns-in-Err-clause-ends g c =

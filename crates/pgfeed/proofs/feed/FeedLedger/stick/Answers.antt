@@ -45,4 +45,4 @@ returns-clause-rests g c =
       stuck = λ free. absurd (true_false (sym (ap (λ (s : Segment g.row.F-File.Denot). s.is_stuck) c.stop.ensures) ∙ free));
     }) in
     rest_rests g.F.File.Disk.seen g.F.File.Disk.may_leave g.F.File.Disk.is_clean g.F.Folder.is_true g.F.Folder.places
-    g.F.Folder.has c.args.self.now (record c.args.self.now { segment = c.stop.new.self }) refl goes
+    g.F.Folder.has c.args.self.now (record c.args.self.now { segment = c.stop.new.self }) refl refl goes

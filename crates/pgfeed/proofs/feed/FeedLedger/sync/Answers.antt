@@ -23,7 +23,7 @@ returns-in_err-flush-clause-rests g c =
       stuck = λ free. absurd (true_false (sym done.stuck ∙ free));
     }) in
     rest_rests g.F.File.Disk.seen g.F.File.Disk.may_leave g.F.File.Disk.is_clean g.F.Folder.is_true g.F.Folder.places
-    g.F.Folder.has c.args.self.now (record c.args.self.now { segment = c.flush.new.self }) refl goes
+    g.F.Folder.has c.args.self.now (record c.args.self.now { segment = c.flush.new.self }) refl refl goes
 
 pub returns-clause-synced : goal.returns-clause-synced
 returns-clause-synced g c =
@@ -55,7 +55,7 @@ returns-clause-rests g c =
       stuck = λ _. done.was_free;
     }) in
     rest_rests g.F.File.Disk.seen g.F.File.Disk.may_leave g.F.File.Disk.is_clean g.F.Folder.is_true g.F.Folder.places
-    g.F.Folder.has c.args.self.now (record c.args.self.now { segment = c.flush.new.self; synced = c.last-self.result }) refl goes
+    g.F.Folder.has c.args.self.now (record c.args.self.now { segment = c.flush.new.self; synced = c.last-self.result }) refl refl goes
 
 pub returns-in_err-flush-clause-kept : goal.returns-in_err-flush-clause-kept
 returns-in_err-flush-clause-kept g c =

@@ -1,4 +1,4 @@
-use Rattle.std.proofs.Common.{◌+◌, ◌<◌, ap, arith, length, string_bytes, subst, ◌∙◌}
+use Rattle.std.proofs.Common.{◌+◌, ◌<◌, [], ap, arith, length, string_bytes, subst, ◌∙◌}
 use Rattle.std.proofs.lemmas.Result.{on_ok_weaker}
 use Rattle.pgledger.specs.Entries.{Entry, entry_of}
 use Rattle.sqlite_disk.specs.Disk.{Holds}
@@ -10,7 +10,7 @@ use Rattle.pgfeed.proofs.segment.Segment.write.Goals as goal
 pub returns-clause-text : goal.returns-clause-text
 returns-clause-text g c =
     let next = c.in_ok-piece.ensures.next in
-    let e : Entry = entry_of c.args.commit.now.end c.args.commit.now.about c.args.commit.now.work.now.changes c.args.images.now in
+    let e : Entry = entry_of c.args.commit.now.end c.args.commit.now.about [] c.args.commit.now.work.now.changes c.args.images.now in
     let long = entry_length c.args.self.now.last e (next_body c.args.self.now e) next.fits in
     let some : 0 < length (string_bytes c.in_ok-piece.piece.text) = omega (arith, ap length next.text, long) in
     on_ok_weaker c.put.result

@@ -18,6 +18,7 @@ returns-clause-rests g c =
     record {
       begins_is = done.base;
       wanting_is = refl;
+      hearing_is = refl;
       outlasts_more = λ p h. lasts_more _ _ _ _ _ _ _ _ _ done.base (omega (arith, done.size)) writes h;
       reopens_less = λ p other h. reopens_less _ _ _ _ _ _ _ _ _ _ _ _ _ _ _ done.base (omega (arith, done.size)) writes h;
     }
