@@ -1,12 +1,15 @@
 -- A store opened on what a crash left holds what was left.
-use Rattle.std.proofs.Common.{◌≡◌, [], inl, inr, false, refl, sym, ap, subst, ◌∙◌}
+use Rattle.std.proofs.Common.{◌≡◌, ◌⊎◌, [], inl, inr, false, refl, sym, ap, subst, ◌∙◌}
 use Rattle.std.proofs.Math.Logic.{∥∥₁_map}
 use Rattle.sqlite_disk.specs.declared.Disk as disk
+use Rattle.sqlite_disk.specs.declared.Files.{Files}
+use Rattle.sqlite_store.specs.declared.store.FileStore.{FileStore}
 use Rattle.sqlite.specs.Effect.{Database, IsDatabase}
 use Rattle.sqlite.specs.Files.{over_files, HoldsDatabase}
 use Rattle.sqlite.specs.Held.{Held, state}
 use Rattle.sqlite.specs.State.{Survives}
 use Rattle.sqlite.specs.Recovery.{Image}
+use Rattle.sqlite.specs.WalFiles.{outcomes}
 use Rattle.sqlite.specs.Store.{Ghosts}
 use Rattle.sqlite.specs.Tree.{Trees}
 use Rattle.sqlite_trees.specs.Objects.{catalog_tree}
@@ -23,7 +26,7 @@ use Rattle.pgstore.specs.Spelled.{IsStored}
 use Rattle.pgstore.specs.StoreValue.{AreOf, Holds, IsValueOf, LeavesAdopted, StoreValue}
 use Rattle.pgstore.specs.StoreValue.{nothing_stored}
 use Rattle.pgstore.specs.Reopened.{AdoptedHoldsContent, ClosedIsReopened, HoldsContent}
-use Rattle.pgstore.specs.Reopened.{LeftIsReopened, RefusedStaysAsFound, Reopens}
+use Rattle.pgstore.specs.Reopened.{IsCopiedTo, LeftIsReopened, RefusedStaysAsFound, Reopens}
 use Rattle.pgstore.specs.Reopened.{ReopensNothingOlder, ReopensTheSame}
 use Rattle.pgstore.proofs.Founding.{whole_value}
 use Rattle.pgstore.proofs.Stores.{IsSettled}
@@ -111,13 +114,20 @@ pub left_is_reopened : {D S : Type 0} (g : disk.Ghosts D) (h : Ghosts S) → Lef
 left_is_reopened g h old new content left holds = ∥∥₁_map (left.stopped left.honest content left.left) (λ it.
     let r : Reopens over_files h old new = record { db = it.0; left = it.1; opened = holds_stored h content new holds it.0 it.2 } in r)
 
--- a store that was closed
+-- the files of a store that was closed hold its database, also without the log
+pub still_held : {D : Type 0} (g : disk.Ghosts D) (old : StoreValue (FileStore D g)) (files : Files D) (left content : Image)
+    → IsCopiedTo old files → outcomes g files.log files.db left → (content ≡ left) ⊎ (content ≡ record left { log = [] })
+    → ∥ HoldsDatabase content (rows.state over_files old.rows).committed.trees ∥₁
+still_held g old files left content copied out which =
+    let db = (rows.state over_files old.rows).committed.trees in
+    let alone = copied.left left out in
+    elim which [
+      | inl same ↦ subst (λ (i : Image). ∥ HoldsDatabase i db ∥₁) (sym same) alone.both
+      | inr gone ↦ subst (λ (i : Image). ∥ HoldsDatabase i db ∥₁) (sym gone) alone.alone
+    ]
+
 pub closed_is_reopened : {D S : Type 0} (g : disk.Ghosts D) (h : Ghosts S) → ClosedIsReopened g h
 closed_is_reopened g h old new files left content copied out which holds v held =
     let db = (rows.state over_files old.rows).committed.trees in
-    let alone = copied.left left out in
-    let found : ∥ HoldsDatabase content db ∥₁ = elim which [
-      | inl same ↦ subst (λ (i : Image). ∥ HoldsDatabase i db ∥₁) (sym same) alone.both
-      | inr gone ↦ subst (λ (i : Image). ∥ HoldsDatabase i db ∥₁) (sym gone) alone.alone
-    ] in
-    ∥∥₁_map found (λ there. holds_stored h content new holds db there v (copied.holds v held))
+    ∥∥₁_map (still_held g old files left content copied out which) (λ there.
+    holds_stored h content new holds db there v (copied.holds v held))

@@ -134,3 +134,17 @@ ClosedIsReopened {D} {S} g h =
     (old : StoreValue (FileStore D g)) (new : StoreValue S) (files : Files D) (left content : Image) → IsCopiedTo old files
     → outcomes g files.log files.db left → (content ≡ left) ⊎ (content ≡ record left { log = [] }) → HoldsContent h content new
     → (v : Stored) → Holds over_files old v → ∥ Holds h new v ∥₁
+
+-- What a crash left of a store is as a run leaves it, so that the next start may trust it: of one
+-- that serves, or was shut by a failure of its disk.
+abbrev pub CrashIsAsLeft : {D : Type 0} → disk.Ghosts D → Type 0
+CrashIsAsLeft {D} g =
+    (old : StoreValue (FileStore D g)) (v : Stored) (content : Image) → Keeps over_files old v → CrashLeaves old content
+    → ∥ IsAsLeft content ∥₁
+
+-- So are the files of a store that was closed, as they are found next, also where the log is gone.
+abbrev pub ClosedIsAsLeft : {D : Type 0} → disk.Ghosts D → Type 0
+ClosedIsAsLeft {D} g =
+    (old : StoreValue (FileStore D g)) (files : Files D) (left content : Image) → IsCopiedTo old files
+    → outcomes g files.log files.db left → (content ≡ left) ⊎ (content ≡ record left { log = [] })
+    → (v : Stored) → Holds over_files old v → ∥ IsAsLeft content ∥₁
