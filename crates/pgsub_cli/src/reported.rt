@@ -7,7 +7,7 @@ ghost use Rattle.pgapply.specs.Taken.{LeavesStaged, Settles, Stays};
 ghost use Rattle.pgsub_cli.specs.declared.reported.Settling.{Settling as Settled};
 
 use crate::files::Unheard;
-use pgapply::{Commit, DumpRow, DumpSink, Misses, ReplicaStore, StoreFault};
+use pgapply::{Commit, DumpRow, DumpSink, LogicalMessage, Misses, ReplicaStore, StoreFault};
 use pglsn::Lsn;
 
 /// Commits that were stored together.
@@ -69,7 +69,7 @@ impl<C: ReplicaStore + Drop, L: Listener + Drop> Reported<C, L> {
     }
 
     /// Counts no commits as staged.
-    fn forget(&mut self)
+    fn count_none(&mut self)
         ensures store { self.new.store ≡ self.old.store }
         ensures listener { self.new.listener ≡ self.old.listener }
     {
@@ -126,7 +126,7 @@ impl<C: ReplicaStore + Drop, L: Listener + Drop> ReplicaStore for Reported<C, L>
 
     fn unstage(&mut self) {
         self.store.unstage();
-        self.forget();
+        self.count_none();
     }
 
     fn stage(&mut self, commit: &Commit<'_, '_>) -> Result<(), StoreFault> {
@@ -176,19 +176,27 @@ impl<C: ReplicaStore + Drop, L: Listener + Drop> ReplicaStore for Reported<C, L>
             if settled.is_ok() {
                 self.tell(reached);
             }
-            self.forget();
+            self.count_none();
         }
         settled
     }
 
     fn rows(&mut self) -> Result<Vec<DumpRow>, StoreFault> {
-        self.forget();
+        self.count_none();
         self.store.rows()
     }
 
     fn each_row<T: DumpSink + Drop>(&mut self, sink: T) -> (Result<bool, StoreFault>, T) {
-        self.forget();
+        self.count_none();
         self.store.each_row(sink)
+    }
+
+    fn hear(&mut self, message: &LogicalMessage<'_>) {
+        self.store.hear(message);
+    }
+
+    fn forget(&mut self) {
+        self.store.forget();
     }
 
     fn misses(&self) -> Misses {
