@@ -65,7 +65,7 @@ IsRun (Some asked) (Some feed) = ⊤
 module _ {F D : Type 0} (seen : D → List ℕ) (may_leave : D → List ℕ → Type 0) (is_clean : D → Bool) (is_true : F → Type 0)
     (places : F → List ℕ) (has : F → ℕ → List ℕ → Type 0) where
   -- It was opened at this LSN as it was planned: in the folder, as a feed of the system, database
-  -- and slot, whose segments end by the limits.
+  -- and slot, whose segments end, and whose messages are told, by the limits.
   pub record IsOpenedAt (plan : FeedPlan F D) (p : ℕ) (l : Feed F D) : Type 0 where
     pub opened : OpensIn seen may_leave is_clean is_true places has plan.folder p l
     pub told : IsOf l.names plan.origin.system.now plan.origin.database.now plan.origin.slot.now

@@ -47,7 +47,7 @@ pub struct FeedPlan<'a, D: Folder + Drop> {
     pub folder: D,
     /// What it is of.
     pub origin: Origin<'a>,
-    /// When its segments end.
+    /// When its segments end, and which messages it tells.
     pub limits: SegmentLimits,
 }
 

@@ -208,7 +208,7 @@ fn store_file<'p>(
     }
 }
 
-/// When the segments of a feed end: 0 seconds mean no limit of age.
+/// When the segments of a feed end, and which messages it tells: 0 seconds mean no limit of age.
 fn segment_limits(options: &FeedOptions) -> SegmentLimits {
     let micros = match options.segment_seconds {
         0 => u64::MAX,
@@ -217,6 +217,7 @@ fn segment_limits(options: &FeedOptions) -> SegmentLimits {
     SegmentLimits {
         bytes: options.segment_bytes,
         micros,
+        messages: options.messages,
     }
 }
 
