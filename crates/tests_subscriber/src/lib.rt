@@ -4,6 +4,7 @@
 //! - The subscriber over its spools and its SQL stores. A row is a worked session: what a server
 //!   sends, in words of `messages`, and the rows, positions and statuses that it must leave. Each
 //!   form of spools takes the rows over each form of store.
+//! - Which messages of clients a store hears before which commit.
 //! - Stores and feeds in memory whose disks stop at any call, and are opened again.
 //! - The short forms for embedders (`pgembed`).
 //! - Following a server (`pgsub_cli`) by readers and writers that fail, over stores that fail and a
@@ -37,6 +38,8 @@ mod feeds;
 mod files;
 #[cfg(test)]
 mod following_tests;
+#[cfg(test)]
+mod hearing_tests;
 #[cfg(test)]
 mod messages;
 #[cfg(test)]

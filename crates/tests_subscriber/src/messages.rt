@@ -10,12 +10,14 @@
 //! - `rel`, `ins`, `upd` and `del` are of the table t with the cells that follow; a letter between
 //!   colons is another table, `?` a cell that wasn't sent. A number before them is the xid that
 //!   they carry inside a block.
+//! - `msg:a` is a transactional message of the prefix k with an LSN that ends in this letter,
+//!   `msg:c!` one that isn't transactional.
 //! - `keep:180` is a keepalive that ends at 0/180, with `?` one that asks for a reply; `done` is
 //!   CopyDone.
 //!
 //! Digits after `=` are bytes of a session as they are. All others are in XLogData from 0/0 to 0/0.
 
-pub(crate) static MESSAGES: [(&str, &str); 93] = [
+pub(crate) static MESSAGES: [(&str, &str); 98] = [
     // Where transactions and blocks begin and end.
     ("begin:100", "42 0000000000000100 0000000000000000 0000000a"),
     ("begin:200", "42 0000000000000200 0000000000000000 0000000b"),
@@ -271,6 +273,18 @@ pub(crate) static MESSAGES: [(&str, &str); 93] = [
     (
         "20:ins:w:2",
         "49 00000014 00004001 4e 0003 74 00000001 32 74 00000001 72 74 00000001 73",
+    ),
+    // Messages that clients wrote into the log.
+    ("msg:a", "4d 01 0000000000000061 6b00 00000001 31"),
+    ("msg:b", "4d 01 0000000000000062 6b00 00000002 3232"),
+    ("msg:c!", "4d 00 0000000000000063 6b00 00000001 33"),
+    (
+        "20:msg:d",
+        "4d 00000014 01 0000000000000064 6b00 00000001 34",
+    ),
+    (
+        "20:msg:e!",
+        "4d 00000014 00 0000000000000065 6b00 00000001 35",
     ),
     // Whole frames and parts of some. `t1` is the transaction at 0/100 that describes t and
     // inserts a row.
