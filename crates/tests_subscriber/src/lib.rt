@@ -1,11 +1,10 @@
-//! Tests of the subscriber, its stores and feeds that can't be made with the built program, and no
-//! code.
+//! Tests of the subscriber and its stores that can't be made with the built program, and no code.
 //!
 //! - The subscriber over its spools and its SQL stores. A row is a worked session: what a server
 //!   sends, in words of `messages`, and the rows, positions and statuses that it must leave. Each
 //!   form of spools takes the rows over each form of store.
 //! - Which messages of clients a store hears before which commit.
-//! - Stores and feeds in memory whose disks stop at any call, and are opened again.
+//! - Stores in memory whose disks stop at any call, and are opened again.
 //! - The short forms for embedders (`pgembed`).
 //! - Following a server (`pgsub_cli`) by readers and writers that fail, over stores that fail and a
 //!   clock that is set by hand, and the texts of all faults.
@@ -28,12 +27,6 @@ mod embedded_rows;
 mod embedded_stores;
 #[cfg(test)]
 mod fault_tests;
-#[cfg(test)]
-mod feed_commits;
-#[cfg(test)]
-mod feed_folders;
-#[cfg(test)]
-mod feeds;
 #[cfg(test)]
 mod files;
 #[cfg(test)]

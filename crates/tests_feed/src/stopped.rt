@@ -1,7 +1,7 @@
 //! Feeds in memory that are written, stopped at each of their calls, and opened again.
 
-use crate::feed_commits::append_at;
-use crate::feed_folders::{MemoryFolder, Stop, Stored};
+use crate::commits::append_at;
+use crate::folders::{MemoryFolder, Stop, Stored};
 use pgapply::StoreFault;
 use pgfeed::{Feed, FeedFault, Folder, Origin, SegmentLimits};
 use pgledger::Ledger;
@@ -12,12 +12,14 @@ use std::process::Abort;
 const TWO: SegmentLimits = SegmentLimits {
     bytes: 1024 + 2 * (256 + 161),
     micros: u64::MAX,
+    messages: None,
 };
 
 /// No more than a single commit.
 const ONE: SegmentLimits = SegmentLimits {
     bytes: 0,
     micros: u64::MAX,
+    messages: None,
 };
 
 /// How a run goes: where its segments end, and how many commits are settled at once.

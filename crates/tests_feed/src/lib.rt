@@ -1,0 +1,14 @@
+//! Tests of feeds in memory, and no code.
+//!
+//! - What a folder has after a stop at any call, and opening it again.
+//! - Which messages a commit tells, and for which it is rejected.
+#![tactic(auto)]
+
+#[cfg(test)]
+mod commits;
+#[cfg(test)]
+mod folders;
+#[cfg(test)]
+mod messages;
+#[cfg(test)]
+mod stopped;
