@@ -18,8 +18,7 @@ use Rattle.pgledger.specs.declared.image.Image.{Image}
 use Rattle.pgledger.specs.declared.image.Image.TheVariants.{Inserted, Updated, Deleted}
 use Rattle.pgledger.specs.Images.{image_of, images}
 use Rattle.pgledger.specs.Entries.{Entry, LeadTo, entry_of}
-use Rattle.pgfeed.specs.Texts.{Bodies, body_text}
-use Rattle.pgfeed.specs.Texts.{key_data}
+use Rattle.pgfeed.specs.Texts.{Bodies, body_text, entry_body, key_data, messages_text}
 use Rattle.pgfeed.specs.Texts.{table_front}
 use Rattle.pgfeed.specs.Texts.{table_rest}
 use Rattle.pgfeed.specs.Fits.{FitsEntry}
@@ -36,7 +35,7 @@ abbrev about : ℕ → ℕ → Option About
 about lsn xid = Some (record { final_lsn = lsn; xid = xid; time = pos 0 })
 
 abbrev told : ℕ → ℕ → ℕ → Image → Entry
-told lsn xid end image = record { end = end; about = about lsn xid; lines = record { definition = t; image = image } ∷ [] }
+told lsn xid end image = record { end = end; about = about lsn xid; messages = []; lines = record { definition = t; image = image } ∷ [] }
 
 abbrev pub entry_10 : Entry
 entry_10 = told 256 10 304 (Inserted (text 49 ∷ text 97 ∷ []))
@@ -68,25 +67,25 @@ clock_fits = fits_signed_from_abs w64 (pos 0) (omega arith)
 
 -- Their lines: each commit tells the definition anew, as a feed may that was opened before it.
 abbrev pub body_10 : List ℕ
-body_10 = body_text [] 1280 0 entry_10.lines
+body_10 = entry_body [] 1280 entry_10
 
 abbrev pub body_11 : List ℕ
-body_11 = body_text [] 1717 0 entry_11.lines
+body_11 = entry_body [] 1717 entry_11
 
 abbrev body_12 : List ℕ
-body_12 = body_text [] 2154 0 entry_12.lines
+body_12 = entry_body [] 2154 entry_12
 
 abbrev pub body_13 : List ℕ
-body_13 = body_text [] 1280 0 entry_13.lines
+body_13 = entry_body [] 1280 entry_13
 
 abbrev body_14 : List ℕ
-body_14 = body_text [] 1717 0 entry_14.lines
+body_14 = entry_body [] 1717 entry_14
 
 abbrev pub bodies : Bodies
 bodies end = cond (end == 304) body_10 (cond (end == 448) body_11 (cond (end == 560) body_12 (cond (end == 672) body_13 body_14)))
 
 pub size_10 : length body_10 ≡ 181
-unfolding body_text lsn_text half_text digits escape_byte table_front table_rest key_data lib.Utf8.encode
+unfolding messages_text body_text lsn_text half_text digits escape_byte table_front table_rest key_data lib.Utf8.encode
 size_10 = refl
 
 pub fits_10 : (prev : ℕ) → prev < 2 ^ 64 → FitsEntry prev entry_10 body_10
@@ -99,7 +98,7 @@ fits_10 prev low = record {
 }
 
 pub size_11 : length body_11 ≡ 181
-unfolding body_text lsn_text half_text digits escape_byte table_front table_rest key_data lib.Utf8.encode
+unfolding messages_text body_text lsn_text half_text digits escape_byte table_front table_rest key_data lib.Utf8.encode
 size_11 = refl
 
 pub fits_11 : (prev : ℕ) → prev < 2 ^ 64 → FitsEntry prev entry_11 body_11
@@ -112,7 +111,7 @@ fits_11 prev low = record {
 }
 
 size_12 : length body_12 ≡ 186
-unfolding body_text lsn_text half_text digits escape_byte table_front table_rest key_data lib.Utf8.encode
+unfolding messages_text body_text lsn_text half_text digits escape_byte table_front table_rest key_data lib.Utf8.encode
 size_12 = refl
 
 pub fits_12 : (prev : ℕ) → prev < 2 ^ 64 → FitsEntry prev entry_12 body_12
@@ -125,7 +124,7 @@ fits_12 prev low = record {
 }
 
 pub size_13 : length body_13 ≡ 181
-unfolding body_text lsn_text half_text digits escape_byte table_front table_rest key_data lib.Utf8.encode
+unfolding messages_text body_text lsn_text half_text digits escape_byte table_front table_rest key_data lib.Utf8.encode
 size_13 = refl
 
 pub fits_13 : (prev : ℕ) → prev < 2 ^ 64 → FitsEntry prev entry_13 body_13
@@ -138,7 +137,7 @@ fits_13 prev low = record {
 }
 
 size_14 : length body_14 ≡ 181
-unfolding body_text lsn_text half_text digits escape_byte table_front table_rest key_data lib.Utf8.encode
+unfolding messages_text body_text lsn_text half_text digits escape_byte table_front table_rest key_data lib.Utf8.encode
 size_14 = refl
 
 pub fits_14 : (prev : ℕ) → prev < 2 ^ 64 → FitsEntry prev entry_14 body_14
@@ -170,11 +169,11 @@ are_14 = (omega arith, (omega arith, tt))
 
 one_entry : (tables mid : Tables) (at : ℕ) (e : Entry) (changes : List Change) (is : List Image) (es : List Entry) (tables' : Tables)
     (at' : ℕ)
-    → at < e.end → images tables changes ≡ is → e ≡ entry_of e.end e.about changes is → fold_changes tables changes ≡ Ok mid
+    → at < e.end → images tables changes ≡ is → e ≡ entry_of e.end e.about e.messages changes is → fold_changes tables changes ≡ Ok mid
     → LeadTo mid e.end es tables' at'
     → LeadTo tables at (e ∷ es) tables' at'
 one_entry tables mid at e changes is es tables' at' up are entry folds more =
-    (up, (changes, entry ∙ ap (λ is. entry_of e.end e.about changes is) (sym are), (mid, folds, more)))
+    (up, (changes, entry ∙ ap (λ is. entry_of e.end e.about e.messages changes is) (sym are), (mid, folds, more)))
 
 image_10 : images map.empty (surviving_changes tx_10.work) ≡ Inserted (text 49 ∷ text 97 ∷ []) ∷ []
 unfolding images image_of apply rows_after tuple_spelling

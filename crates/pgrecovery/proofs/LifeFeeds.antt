@@ -1,7 +1,7 @@
 -- A folder in memory, and the feed of the worked life in it: as it is opened in each run, as each
 -- run leaves it, and the folder then, once after a crash and once after others removed a segment.
 use Rattle.std.proofs.Common.{◌≡◌, ◌≢◌, ◌<◌, ◌+◌, ◌++◌, ◌⊎◌, [], ◌∷◌, List, ℕ, Bool, true, false}
-use Rattle.std.proofs.Common.{None, refl, sym, ap, ◌∙◌, subst, arith, inl, inr}
+use Rattle.std.proofs.Common.{None, Some, refl, sym, ap, ◌∙◌, subst, arith, inl, inr}
 use Rattle.std.proofs.Common.{length}
 use Rattle.std.proofs.Common.{append-nil, append_assoc, length-append}
 use Rattle.std.specs.Prelude.{⊤, IsTrue, ◌^◌, take, drop, codes, map as mapped}
@@ -15,9 +15,9 @@ use Rattle.pgledger.specs.Entries.{Entry, last_end}
 use Rattle.pgfeed.specs.declared.feed.Feed.{Feed}
 use Rattle.pgfeed.specs.declared.segment.Segment.{Segment}
 use Rattle.pgfeed.specs.declared.told.Told.{Told}
-use Rattle.pgfeed.specs.Texts.{body_text, closing_line, entries_text, entry_line}
-use Rattle.pgfeed.specs.Texts.{entry_text}
+use Rattle.pgfeed.specs.Texts.{closing_line, entries_text, entry_body, entry_line, entry_text}
 use Rattle.pgfeed.specs.Texts.{segment_front, segment_head, segment_object, segment_rest}
+use Rattle.pgfeed.specs.Hearing.{all_heard}
 use Rattle.pgfeed.specs.Fits.{FitsEntry}
 use Rattle.pgfeed.specs.Reading.{AreEntries, AreWritten, IsBody, Stands, Walks, mark_of}
 use Rattle.pgfeed.specs.Segments.{EndsTested, IsCut, IsEnded, IsFound, IsHead, KeepsEntries}
@@ -112,15 +112,15 @@ unfolding head
 head_begins base = (_, append_assoc (segment_front base) (segment_rest (codes "7231") (codes "shop") (codes "copy")) _)
 
 -- lines that tell all definitions stand anywhere
-own_body : (front : List ℕ) (at : ℕ) (e : Entry) → length front ≡ at → IsBody front e (body_text [] at 0 e.lines)
-own_body front at e long = record { told = []; stand = tt; body_is = ap (λ k. body_text [] k 0 e.lines) (sym long) }
+own_body : (front : List ℕ) (at : ℕ) (e : Entry) → length front ≡ at → IsBody front e (entry_body [] at e)
+own_body front at e long = record { told = []; stand = tt; body_is = ap (λ k. entry_body [] k e) (sym long) }
 
-first_body : (base prev : ℕ) (e : Entry) → IsHead base (head base) → FitsEntry prev e (body_text [] 1280 0 e.lines)
-    → IsBody (head base ++ entry_line prev e (body_text [] 1280 0 e.lines)) e (body_text [] 1280 0 e.lines)
+first_body : (base prev : ℕ) (e : Entry) → IsHead base (head base) → FitsEntry prev e (entry_body [] 1280 e)
+    → IsBody (head base ++ entry_line prev e (entry_body [] 1280 e)) e (entry_body [] 1280 e)
 first_body base prev e is fits =
-    let line : List ℕ = entry_line prev e (body_text [] 1280 0 e.lines) in
+    let line : List ℕ = entry_line prev e (entry_body [] 1280 e) in
     own_body (head base ++ line) 1280 e
-    (omega (arith, is.size, own_length prev e (body_text [] 1280 0 e.lines) fits, length-append (head base) line))
+    (omega (arith, is.size, own_length prev e (entry_body [] 1280 e) fits, length-append (head base) line))
 
 -- behind another entry
 next_size : (front : List ℕ) (size prev : ℕ) (e : Entry) (body : List ℕ) → length front ≡ size → FitsEntry prev e body
@@ -129,12 +129,12 @@ next_size front size prev e body long fits =
     omega (arith, long, entry_length prev e body fits, length-append front (entry_text prev e body))
 
 next_body : (front : List ℕ) (size at prev : ℕ) (e : Entry) → length front ≡ size → size + 256 ≡ at
-    → FitsEntry prev e (body_text [] at 0 e.lines)
-    → IsBody (front ++ entry_line prev e (body_text [] at 0 e.lines)) e (body_text [] at 0 e.lines)
+    → FitsEntry prev e (entry_body [] at e)
+    → IsBody (front ++ entry_line prev e (entry_body [] at e)) e (entry_body [] at e)
 next_body front size at prev e long there fits =
-    let line : List ℕ = entry_line prev e (body_text [] at 0 e.lines) in
+    let line : List ℕ = entry_line prev e (entry_body [] at e) in
     own_body (front ++ line) at e
-    (omega (arith, long, there, own_length prev e (body_text [] at 0 e.lines) fits, length-append front line))
+    (omega (arith, long, there, own_length prev e (entry_body [] at e) fits, length-append front line))
 
 written_three : AreWritten bodies (head 0) 0 first_three
 written_three =
@@ -273,9 +273,10 @@ alone_in base b there left other away (inl at) = absurd (away at.0)
 alone_in base b there left other away (inr none) = absurd none
 
 -- ---- the feeds: any feed's allocator, names and limits, without a segment that has ended and is
--- still held, or a definition that is told
+-- still held, a definition that is told, or a message that was heard
 
-module _ (any : MemoryFeed) (alone : any.ended.items ≡ []) (untold : any.segment.told.items ≡ []) where
+module _ (any : MemoryFeed) (alone : any.ended.items ≡ []) (untold : any.segment.told.items ≡ [])
+    (unheard : all_heard any.hearing ≡ Some []) where
   abbrev pub feed_in : Folder → ℕ → ℕ → List Entry → MemoryFeed
   feed_in folder begins base es = record any {
     folder = folder;
@@ -304,6 +305,7 @@ module _ (any : MemoryFeed) (alone : any.ended.items ≡ []) (untold : any.segme
     free = refl;
     synced = refl;
     untimed = refl;
+    unheard = unheard;
     cuts = λ _. record {
       bases = [];
       above = [];
@@ -347,6 +349,7 @@ module _ (any : MemoryFeed) (alone : any.ended.items ≡ []) (untold : any.segme
     free = refl;
     synced = refl;
     untimed = refl;
+    unheard = unheard;
     cuts = λ _. record {
       bases = [];
       above = [];
@@ -409,6 +412,7 @@ module _ (any : MemoryFeed) (alone : any.ended.items ≡ []) (untold : any.segme
     free = refl;
     synced = refl;
     untimed = refl;
+    unheard = unheard;
     cuts = λ _. record {
       bases = [];
       above = [];

@@ -24,6 +24,7 @@ use Rattle.pgapply.specs.Stored.{Stored}
 use Rattle.pgapply.specs.Value.{Tables}
 use Rattle.pgapply.specs.Missing.{nothing_missed}
 use Rattle.pgfeed.specs.Beside.{LeadsFrom, RecordsRest}
+use Rattle.pgfeed.specs.Hearing.{all_heard}
 use Rattle.pgfeed.proofs.Beside.{goes_on}
 use Rattle.pgstore.specs.Acts.{committed_of}
 use Rattle.pgstore.specs.StoreValue.{AreOf, Contains, Holds as Store_holds, Serves}
@@ -174,6 +175,7 @@ pub record Given {D : Type 0} (g : disk.Ghosts D) : Type 0 where
   pub any : MemoryFeed
   pub alone : any.ended.items ≡ []
   pub untold : any.segment.told.items ≡ []
+  pub unheard : all_heard any.hearing ≡ Some []
   pub rows_1 : FileStore D g
   pub rows_1_ended : FileStore D g
   pub content_1 : Image
@@ -187,23 +189,23 @@ pub record Given {D : Type 0} (g : disk.Ghosts D) : Type 0 where
 module _ {D : Type 0} {g : disk.Ghosts D} (l : Given g) where
   -- over an empty store
   abbrev pub begun_1 : One g
-  begun_1 = opened l.rows_1 (feed_1 l.any l.alone l.untold) 0
+  begun_1 = opened l.rows_1 (feed_1 l.any l.alone l.untold l.unheard) 0
 
   -- amid a group: xids 11 and 12 are staged, up to 560, and the store's position is 304
   abbrev pub ended_1 : One g
-  ended_1 = one l.rows_1_ended (feed_1_ended l.any l.alone l.untold) 304 560 304 384 told_t true false
+  ended_1 = one l.rows_1_ended (feed_1_ended l.any l.alone l.untold l.unheard) 304 560 304 384 told_t true false
 
   abbrev pub begun_2 : One g
-  begun_2 = opened l.rows_2 (feed_2 l.any l.alone l.untold) 304
+  begun_2 = opened l.rows_2 (feed_2 l.any l.alone l.untold l.unheard) 304
 
   abbrev pub ended_2 : One g
-  ended_2 = one l.rows_2_ended (feed_2_ended l.any l.alone l.untold) 672 672 700 700 told_t false true
+  ended_2 = one l.rows_2_ended (feed_2_ended l.any l.alone l.untold l.unheard) 672 672 700 700 told_t false true
 
   abbrev pub begun_3 : One g
-  begun_3 = opened l.rows_3 (feed_3 l.any l.alone l.untold) 672
+  begun_3 = opened l.rows_3 (feed_3 l.any l.alone l.untold l.unheard) 672
 
   abbrev pub ended_3 : One g
-  ended_3 = one l.rows_3_ended (feed_3_ended l.any l.alone l.untold) 816 816 816 816 told_t false true
+  ended_3 = one l.rows_3_ended (feed_3_ended l.any l.alone l.untold l.unheard) 816 816 816 816 told_t false true
 
   abbrev run : Image → Folder → One g → List ℕ → List Sent → One g → Image → FedRun g Folder (List ℕ)
   run content folder begun bytes complete ended after = record {
@@ -221,8 +223,8 @@ module _ {D : Type 0} {g : disk.Ghosts D} (l : Given g) where
 
   abbrev pub runs : List (FedRun g Folder (List ℕ))
   runs = run new_files [] begun_1 bytes_1 complete_1 ended_1 l.content_1
-      ∷ run l.content_1 (folder_1 l.any l.alone l.untold) begun_2 bytes_2 complete_2 ended_2 l.content_2
-      ∷ run l.content_2 (folder_3 l.any l.alone l.untold) begun_3 bytes_3 complete_3 ended_3 l.content_3 ∷ []
+      ∷ run l.content_1 (folder_1 l.any l.alone l.untold l.unheard) begun_2 bytes_2 complete_2 ended_2 l.content_2
+      ∷ run l.content_2 (folder_3 l.any l.alone l.untold l.unheard) begun_3 bytes_3 complete_3 ended_3 l.content_3 ∷ []
 
   abbrev Holds : Store g → Tables → Type 0
   Holds = holds_fed g shows may_leave is_clean is_true places has ⊤
@@ -385,17 +387,17 @@ module _ {D : Type 0} {g : disk.Ghosts D} (l : Given g) where
 
     -- run one's subscriber, but over a store that serves
     abbrev pub stood_1 : One g
-    stood_1 = one l.rows_2 (feed_1_ended l.any l.alone l.untold) 304 560 304 384 told_t true false
+    stood_1 = one l.rows_2 (feed_1_ended l.any l.alone l.untold l.unheard) 304 560 304 384 told_t true false
 
     -- and as it would be if the store had all that was staged
     abbrev pub all_1 : One g
-    all_1 = one l.rows_1_ended (feed_1_ended l.any l.alone l.untold) 560 560 560 560 told_t true false
+    all_1 = one l.rows_1_ended (feed_1_ended l.any l.alone l.untold l.unheard) 560 560 560 560 told_t true false
 
     why_1 : Holds_2 → StandsAsFed fed_position (Follows begun_1 bytes_1 refused) ended_1
     why_1 held = (
       stood_1,
       record { position = refl; confirmed = refl; received = refl; version = refl; limit = refl; replies = refl },
-      follows begun_1 stood_1 bytes_1 map.empty tables_304 refused holds_1 (held, λ _. recorded_1 l.any l.alone l.untold) feeds_1,
+      follows begun_1 stood_1 bytes_1 map.empty tables_304 refused holds_1 (held, λ _. recorded_1 l.any l.alone l.untold l.unheard) feeds_1,
     )
 
     crash_1 : Leaves begun_1 bytes_1 ended_1
@@ -403,24 +405,24 @@ module _ {D : Type 0} {g : disk.Ghosts D} (l : Given g) where
       | inl old ↦ let safe = safe_of begun_1 ended_1 bytes_1 map.empty ts tables_304 refused history' all_complete holds_1 is.0 sent
           feeds_1 in
           left_with history' ended_1 other stored_304 560 304 again (again.0.opened stored_304 old)
-          (recorded_1 l.any l.alone l.untold) safe.same
+          (recorded_1 l.any l.alone l.untold l.unheard) safe.same
           safe.stored (omega arith) (omega arith)
       | inr new ↦ let safe = safe_of begun_1 all_1 bytes_1 map.empty ts tables_560 (Some fault.Memory) history' all_complete holds_1
           is.0 sent feeds_1_all in
           left_with history' ended_1 other stored_560 560 560 again (again.0.opened stored_560 new)
-          (recorded_1_all l.any l.alone l.untold) safe.same
+          (recorded_1_all l.any l.alone l.untold l.unheard) safe.same
           safe.stored (omega arith) (omega arith)
     ]
 
     followed_2 : Holds_2 → Follows begun_2 bytes_2 None ended_2
     followed_2 held =
         follows begun_2 ended_2 bytes_2 tables_304 tables_672 None held
-        (lived.contains_2.holds.stored, λ _. recorded_2 l.any l.alone l.untold) feeds_2
+        (lived.contains_2.holds.stored, λ _. recorded_2 l.any l.alone l.untold l.unheard) feeds_2
 
     followed_3 : Holds_3 → Follows begun_3 bytes_3 None ended_3
     followed_3 held =
         follows begun_3 ended_3 bytes_3 tables_672 tables_816 None held
-        (lived.contains_3.holds.stored, λ _. recorded_3 l.any l.alone l.untold) feeds_3
+        (lived.contains_3.holds.stored, λ _. recorded_3 l.any l.alone l.untold l.unheard) feeds_3
 
     abbrev AreRuns : Type 0
     AreRuns = AreFedRuns g shows may_leave is_clean is_true places has ⊤ history new_files (λ p folder. places folder ≡ []) 0 runs
@@ -432,8 +434,8 @@ module _ {D : Type 0} {g : disk.Ghosts D} (l : Given g) where
       (λ _. refl),
       record {
         found = lived.found_1;
-        opened = opened_1 l.any l.alone l.untold;
-        honest = λ _. honest l.any l.alone l.untold ((0, file 0 []) ∷ []) 0 0 [];
+        opened = opened_1 l.any l.alone l.untold l.unheard;
+        honest = λ _. honest l.any l.alone l.untold l.unheard ((0, file 0 []) ∷ []) 0 0 [];
         new = λ tables. refl;
         sent = λ tables. ((0, omega arith, inl session_1), tt);
         clock = clock;
@@ -445,11 +447,11 @@ module _ {D : Type 0} {g : disk.Ghosts D} (l : Given g) where
       },
       (
         refl,
-        (λ _. ([], left_1 l.any l.alone l.untold)),
+        (λ _. ([], left_1 l.any l.alone l.untold l.unheard)),
         record {
           found = lived.found_2;
-          opened = opened_2 l.any l.alone l.untold;
-          honest = λ _. honest l.any l.alone l.untold ((0, file 0 (entry_10 ∷ [])) ∷ []) 0 0 (entry_10 ∷ []);
+          opened = opened_2 l.any l.alone l.untold l.unheard;
+          honest = λ _. honest l.any l.alone l.untold l.unheard ((0, file 0 (entry_10 ∷ [])) ∷ []) 0 0 (entry_10 ∷ []);
           new = λ tables. refl;
           sent = λ tables. ((0, omega arith, inl session_2), tt);
           clock = clock;
@@ -457,16 +459,16 @@ module _ {D : Type 0} {g : disk.Ghosts D} (l : Given g) where
           followed = stands ended_2 (followed_2 held_2);
           rows = λ _. followed_2 held_2;
           crash = leaves begun_2 ended_2 bytes_2 tables_304 tables_672 672 held_2 lived.contains_2
-              (recorded_2 l.any l.alone l.untold) feeds_2;
+              (recorded_2 l.any l.alone l.untold l.unheard) feeds_2;
           left = inr (lived.serves_2, lived.closed_2);
         },
         (
           refl,
-          (λ _. (0 ∷ [], left_2 l.any l.alone l.untold)),
+          (λ _. (0 ∷ [], left_2 l.any l.alone l.untold l.unheard)),
           record {
             found = lived.found_3;
-            opened = opened_3 l.any l.alone l.untold;
-            honest = λ _. honest l.any l.alone l.untold (folder_3 l.any l.alone l.untold) 560 560 (entry_13 ∷ []);
+            opened = opened_3 l.any l.alone l.untold l.unheard;
+            honest = λ _. honest l.any l.alone l.untold l.unheard (folder_3 l.any l.alone l.untold l.unheard) 560 560 (entry_13 ∷ []);
             new = λ tables. refl;
             sent = λ tables. ((700, omega arith, inl session_3), tt);
             clock = clock;
@@ -474,7 +476,7 @@ module _ {D : Type 0} {g : disk.Ghosts D} (l : Given g) where
             followed = stands ended_3 (followed_3 held_3);
             rows = λ _. followed_3 held_3;
             crash = leaves begun_3 ended_3 bytes_3 tables_672 tables_816 816 held_3 lived.contains_3
-                (recorded_3 l.any l.alone l.untold) feeds_3;
+                (recorded_3 l.any l.alone l.untold l.unheard) feeds_3;
             left = inr (lived.serves_3, lived.closed_3);
           },
           tt,

@@ -138,13 +138,14 @@ pub use Rattle.pgfeed.specs.Texts.{if_there, newer, same_column as same_column_o
 pub use Rattle.pgfeed.specs.Texts.{same_definition, told_at, newest, place, fresh_text}
 pub use Rattle.pgfeed.specs.Texts.{change_front, row_data, change_line, sent_rows, sent_op}
 pub use Rattle.pgfeed.specs.Texts.{sent_text, missed_line, image_line, named as named_of_pgfeed}
-pub use Rattle.pgfeed.specs.Texts.{line_text, told_with, line_told, commit_front, unix_micros}
-pub use Rattle.pgfeed.specs.Texts.{about_text, commit_rest, commit_told, crc_text, commit_object}
-pub use Rattle.pgfeed.specs.Texts.{commit_size, padded, commit_line, entry_line, segment_front}
-pub use Rattle.pgfeed.specs.Texts.{segment_rest, segment_object, segment_size, segment_head}
-pub use Rattle.pgfeed.specs.Texts.{closing_object, closing_line}
-unfoldable pub use Rattle.pgfeed.specs.Texts.{table_front, key_data, table_rest, body_text}
-unfoldable pub use Rattle.pgfeed.specs.Texts.{entry_crc, entry_text, entries_text}
+pub use Rattle.pgfeed.specs.Texts.{line_text, told_with, line_told, message_line, entry_body}
+pub use Rattle.pgfeed.specs.Texts.{commit_front, unix_micros, about_text, commit_rest, commit_told}
+pub use Rattle.pgfeed.specs.Texts.{crc_text, commit_object, commit_size, padded, commit_line}
+pub use Rattle.pgfeed.specs.Texts.{entry_line, segment_front, segment_rest, segment_object}
+pub use Rattle.pgfeed.specs.Texts.{segment_size, segment_head, closing_object, closing_line}
+unfoldable pub use Rattle.pgfeed.specs.Texts.{table_front, key_data, table_rest, body_text, is_text}
+unfoldable pub use Rattle.pgfeed.specs.Texts.{content_data, messages_text, entry_crc, entry_text}
+unfoldable pub use Rattle.pgfeed.specs.Texts.{entries_text}
 pub use Rattle.pgfeed.specs.Fits.{FitsAbout, FitsLine, FitsEntry}
 pub use Rattle.pgapply.specs.Dump.{shown_namespace}
 pub use Rattle.pgjson.specs.Messages.{integer, natural, letter_data, old_data, prior_data}
@@ -156,6 +157,7 @@ unfoldable pub use Rattle.pgcrc.specs.Crc.{after_bit, after_bits, bits, crc32}
 pub use Rattle.pgfeed.specs.Segments.{IsHead, KeepsEntries, Begins, IsFront, LastsAs, Lasts}
 pub use Rattle.pgfeed.specs.Segments.{most_tested, EndsTested, IsCut, IsFound, IsFinished, IsEnded}
 pub use Rattle.pgfeed.specs.Segments.{HasHead, HasWhatLasts}
+pub use Rattle.pgfeed.specs.Hearing.{if_whole, all_heard}
 pub use Rattle.pgfeed.specs.Beside.{KeepsRest, LastsFrom, is_stuck_feed, told_from, RecordsRest}
 pub use Rattle.pgfeed.specs.Beside.{LeadsFrom}
 pub use Rattle.pgledger.specs.Records.{Records}
