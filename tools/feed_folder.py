@@ -12,6 +12,7 @@ from feed_text import (
     SEGMENT_SIZE,
     About,
     Line,
+    Message,
     Told,
     closing_line,
     entry_text,
@@ -60,10 +61,16 @@ class Segment:
         self.told: Told = {}
 
     def entry(
-        self, at: int, end: int, lines: Sequence[Line], about: About | None, told: Told
+        self,
+        at: int,
+        end: int,
+        lines: Sequence[Line],
+        about: About | None,
+        told: Told,
+        messages: Sequence[Message] = (),
     ) -> bytes:
         """The text of a commit here. What it tells is told then."""
-        return entry_text(at, end, lines, about, told, len(self.text))
+        return entry_text(at, end, lines, about, told, len(self.text), messages)
 
     def add(self, end: int, text: bytes) -> None:
         self.text += text
@@ -121,14 +128,20 @@ class Folder:
         """Ends the last segment."""
         self.last().text += closing_line(self.at)
 
-    def commit(self, end: int, lines: Sequence[Line] = (), about: About | None = None) -> None:
+    def commit(
+        self,
+        end: int,
+        lines: Sequence[Line] = (),
+        about: About | None = None,
+        messages: Sequence[Message] = (),
+    ) -> None:
         told = self.last().told.copy()
-        text = self.last().entry(self.at, end, lines, about, told)
+        text = self.last().entry(self.at, end, lines, about, told, messages)
         if self.is_full(len(text)) or self.is_late(about):
             self.end()
             self.begin()
             told = Told()
-            text = self.last().entry(self.at, end, lines, about, told)
+            text = self.last().entry(self.at, end, lines, about, told, messages)
         self.last().add(end, text)
         self.last().told = told
         self.at = end

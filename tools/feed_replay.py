@@ -13,7 +13,7 @@ import zlib
 from collections import Counter
 from collections.abc import Iterator
 from pathlib import Path
-from typing import Any
+from typing import Any, NamedTuple
 
 HEAD, COMMIT = 1024, 256
 Row = tuple[str | bytes | None, ...]
@@ -37,6 +37,24 @@ def need(is_so: bool, what: str) -> None:
         raise Wrong(what)
 
 
+class Told(NamedTuple):
+    """A message: its commit's end, final LSN and xid, and its own LSN, prefix and content."""
+
+    end: int
+    final: int | None
+    xid: int | None
+    lsn: int
+    prefix: str
+    content: bytes
+
+    @staticmethod
+    def of(commit: dict[str, Any], it: dict[str, Any]) -> Told:
+        final, content = commit["lsn"] and lsn_of(commit["lsn"]), it["content"]
+        content = content.encode() if isinstance(content, str) else bytes.fromhex(content["hex"])
+        commit_of = lsn_of(commit["end"]), final, commit["xid"]
+        return Told(*commit_of, lsn_of(it["lsn"]), it["prefix"], content)
+
+
 class Replay:
     """The rows at an LSN. `definitions` and `rows` are by OID; a row is there as often as it is
     counted."""
@@ -46,6 +64,8 @@ class Replay:
         self.definitions: dict[int, dict[str, Any]] = {}
         self.rows: dict[int, Counter[Row]] = {}
         self.missed = self.changes = 0
+        # of each message the commit's end and final LSN, its xid, and what the message has
+        self.messages: list[Told] = []
 
     def begin(self, definition: dict[str, Any], rows: Counter[Row]) -> None:
         """Gives a table the rows that it has at the LSN."""
@@ -97,6 +117,10 @@ class Replay:
         need(lsn_of(commit["prev"]) == self.at, f"{commit['end']} doesn't go on at {self.at:X}")
         lines, told, n = body.splitlines(), set[int](), 0
         for it in map(json.loads, lines):
+            if it["op"] == "m":
+                need(not told, f"{commit['end']}: a message behind a definition: {it}")
+                self.messages.append(Told.of(commit, it))
+                continue
             if it["op"] == "table":
                 self.describe(it)
                 told.add(it["oid"])
@@ -115,6 +139,10 @@ def told_lines(text: bytes, start: int, body: bytes) -> bytes:
     for line in body.splitlines(keepends=True):
         it = definition = json.loads(line)
         named = line
+        if it["op"] == "m":
+            lines.append(line)
+            offset += len(line)
+            continue
         if it["op"] != "table":
             at = it["at"]
             need(HEAD + COMMIT <= at < offset, f"a definition isn't before its change: {it}")

@@ -2,6 +2,7 @@
 
 from __future__ import annotations
 
+import contextlib
 import json
 import re
 import zlib
@@ -65,6 +66,15 @@ class Line:
 
 
 @dataclass(frozen=True)
+class Message:
+    """A logical message: where in the log, its prefix and what it has."""
+
+    lsn: int
+    prefix: str
+    content: bytes
+
+
+@dataclass(frozen=True)
 class About:
     """The final LSN, the xid, and the time in microseconds since 2000."""
 
@@ -92,7 +102,7 @@ def segment_name(base: int) -> str:
 
 def segment_head(base: int, system: str, database: str, slot: str) -> bytes:
     what = f'"system":{compact(system)},"database":{compact(database)},"slot":{compact(slot)}'
-    return padded(SEGMENT_SIZE, f'{{"feed":3,"base":"{lsn_text(base)}",{what}}}')
+    return padded(SEGMENT_SIZE, f'{{"feed":4,"base":"{lsn_text(base)}",{what}}}')
 
 
 def closing_line(end: int) -> bytes:
@@ -134,6 +144,19 @@ def row_text(row: Row | None) -> str:
     return compact(None if row is None else [cell_value(it) for it in row])
 
 
+def content_value(content: bytes) -> Any:
+    """What is no text of UTF-8, or has U+0000, is in hexadecimal."""
+    with contextlib.suppress(UnicodeDecodeError):
+        if b"\0" not in content:
+            return content.decode()
+    return {"hex": content.hex()}
+
+
+def message_line(it: Message) -> bytes:
+    told = f'"prefix":{compact(it.prefix)},"content":{compact(content_value(it.content))}'
+    return f'{{"op":"m","lsn":"{lsn_text(it.lsn)}",{told}}}\n'.encode()
+
+
 def table_line(it: Definition) -> bytes:
     key = [column.name for column in it.columns if column.key] if it.is_keyed() else None
     columns = [[column.name, column.type_oid, column.modifier] for column in it.columns]
@@ -156,10 +179,12 @@ def change_line(at: int, n: int, it: Line) -> bytes:
 Told = dict[int, tuple[Definition, int]]
 
 
-def body_text(lines: Sequence[Line], told: Told, start: int) -> bytes:
-    """The lines of a commit, which begin at an offset of the segment: before a change its definition,
-    unless it is told. What they tell is told then."""
-    body = b""
+def body_text(
+    lines: Sequence[Line], told: Told, start: int, messages: Sequence[Message] = ()
+) -> bytes:
+    """The lines of a commit, which begin at an offset of the segment: those of messages, then before
+    a change its definition, unless it is told. What they tell is told then."""
+    body = b"".join(map(message_line, messages))
     for n, line in enumerate(lines):
         definition = line.definition
         known, at = told.get(definition.oid, (None, 0))
@@ -178,9 +203,10 @@ def entry_text(
     about: About | None = None,
     told: Told | None = None,
     size: int = SEGMENT_SIZE,
+    messages: Sequence[Message] = (),
 ) -> bytes:
     """The text of a commit behind so many bytes of a segment, which has told these definitions."""
-    body = body_text(lines, {} if told is None else told, size + COMMIT_SIZE)
+    body = body_text(lines, {} if told is None else told, size + COMMIT_SIZE, messages)
     return commit_line(end, prev, body, len(lines), about) + body
 
 
@@ -211,19 +237,31 @@ class Writer:
             file.write(text)
         self.size += len(text)
 
-    def text(self, end: int, lines: Sequence[Line], about: About | None = None) -> bytes:
+    def text(
+        self,
+        end: int,
+        lines: Sequence[Line],
+        about: About | None = None,
+        messages: Sequence[Message] = (),
+    ) -> bytes:
         """Makes room for a commit; its text, which is to be put next."""
         told = self.told.copy()
-        text = entry_text(self.at, end, lines, about, told, self.size)
+        text = entry_text(self.at, end, lines, about, told, self.size, messages)
         if not self.is_empty and self.size + len(text) > self.most:
             self.end()
             told = self.told.copy()
-            text = entry_text(self.at, end, lines, about, told, self.size)
+            text = entry_text(self.at, end, lines, about, told, self.size, messages)
         self.at, self.is_empty, self.told = end, False, told
         return text
 
-    def commit(self, end: int, lines: Sequence[Line] = (), about: About | None = None) -> None:
-        self.put(self.text(end, lines, about))
+    def commit(
+        self,
+        end: int,
+        lines: Sequence[Line] = (),
+        about: About | None = None,
+        messages: Sequence[Message] = (),
+    ) -> None:
+        self.put(self.text(end, lines, about, messages))
 
     def end(self) -> None:
         """Closes the segment, and begins the next."""

@@ -14,16 +14,18 @@ if TYPE_CHECKING:
     from .changes import Change, Commit, Delete, Insert, Missed, Row, Truncate, Update, python_value
     from .consumer import read
     from .errors import Damaged, FileError, Passing, Unfit
+    from .reader.commits import Message
     from .relation import BaseType, Column, ColumnType, Relation, TableTypes
     from .texts import lsn_text, parse_lsn
 
 __all__ = ["BaseType", "Change", "Column", "ColumnType", "Commit", "Damaged", "Delete", "FileError"]
-__all__ += ["Insert", "Missed", "Passing", "Relation", "Row", "TableTypes", "Truncate", "Unfit"]
-__all__ += ["Update", "lsn_text", "parse_lsn", "python_value", "read"]
+__all__ += ["Insert", "Message", "Missed", "Passing", "Relation", "Row", "TableTypes", "Truncate"]
+__all__ += ["Unfit", "Update", "lsn_text", "parse_lsn", "python_value", "read"]
 # Where each is; it is imported once it is asked for, so that a short command begins at once.
 HOMES = {
     "consumer": ("read",),
     "errors": ("Damaged", "FileError", "Passing", "Unfit"),
+    "reader.commits": ("Message",),
     "relation": ("BaseType", "Column", "ColumnType", "Relation", "TableTypes"),
     "texts": ("lsn_text", "parse_lsn"),
 }

@@ -7,7 +7,7 @@ import uuid
 from collections.abc import Callable, Iterator, Mapping
 
 from .reader import commits
-from .reader.commits import XID, Cell, Cells, Unsent
+from .reader.commits import XID, Cell, Cells, Message, Unsent
 from .relation import BaseType, Column, Relation
 from .tables.values import BOOL, BYTEA, FLOAT4, FLOAT8, KINDS, NUMERIC, TEXTS, read_bytea
 from .texts import lsn_text
@@ -157,7 +157,10 @@ class Commit:
     have another shape keep their values by the names of the columns, and a new one is null.
 
     `is_base`: it has rows from before the first commit, each table truncated before its first ones.
-    They are complete with the last such commit: those before it have the LSN 0."""
+    They are complete with the last such commit: those before it have the LSN 0.
+
+    `messages`: what the transaction wrote by `pg_logical_emit_message`, where the follower is asked
+    for that."""
 
     lsn: int
     prev: int
@@ -166,6 +169,7 @@ class Commit:
     tables: tuple[Relation, ...]
     changes: tuple[Change, ...]
     is_base: bool = False
+    messages: tuple[Message, ...] = ()
 
     def text(self) -> str:
         return lsn_text(self.lsn)

@@ -12,6 +12,7 @@ from .errors import Damaged, UsageError
 from .interruption import Check, never
 from .pipe.following import SCHEME, Remote
 from .reader import commits
+from .reader.commits import Message
 from .reader.folder import noted_of
 from .reader.following import Chosen
 from .reader.polling import Poll
@@ -44,7 +45,7 @@ def read(
     The `types` of a change's table are what the server's catalog has said of it: names, labels, keys
     and what is never null. A commit with a new definition is given once the follower has looked.
 
-    `tables`: only changes of these, named as for `--table`. With a `reader`'s name the feed keeps
+    `tables`: only changes of these, named as for `--table`, and all messages. With a `reader`'s name the feed keeps
     what this one hasn't done: a commit is done once the next one is asked for, so what came of it
     has to be on the disk by then. `check` is called while nothing comes, and may raise to end it.
 
@@ -99,11 +100,13 @@ class Build:
 
     def __call__(self, commit: commits.Commit, parts: Iterable[commits.Part]) -> Commit:
         tables, changes = dict[int, Relation](), list[Change]()
-        told = dict[Relation, None]()
+        told, messages = dict[Relation, None](), list[Message]()
         for part in parts:
-            if not self.chosen(part.relation):
+            if isinstance(part, Message):
+                messages.append(part)
+            elif not self.chosen(part.relation):
                 continue
-            if isinstance(part, commits.TableLine):
+            elif isinstance(part, commits.TableLine):
                 table = tables[part.relation.oid] = self.typed(part.relation, commit)
                 told[table] = None
                 changes += self.clear(commit, table)
@@ -114,7 +117,7 @@ class Build:
             time = EPOCH + datetime.timedelta(microseconds=commit.ts_us)
         is_base = commit.base is not None
         about = commit.end, commit.prev, commit.xid, time
-        return Commit(*about, tuple(told), tuple(changes), is_base)
+        return Commit(*about, tuple(told), tuple(changes), is_base, tuple(messages))
 
     def typed(self, relation: Relation, commit: commits.Commit) -> Relation:
         """A definition with what the catalog said of it."""

@@ -96,7 +96,7 @@ class Damaged(FileError):
     | 2 | a segment is of another server, database or slot than the one before it, or has the name of another base |
     | 3 | a commit's line isn't one |
     | 4 | a commit doesn't go on where the one before it ends |
-    | 5 | the line of a definition or of a change isn't one |
+    | 5 | the line of a message, a definition or a change isn't one |
     | 6 | a commit has other bytes or another number of changes than its line says |
     | 7 | a change is of a relation that its commit doesn't describe |
     | 8 | a row has another number of cells than its relation has columns |

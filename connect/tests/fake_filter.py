@@ -85,7 +85,7 @@ class Fake:
         there = sorted(it for it in folder.iterdir() if len(it.name) == 16)
         if there:
             last = there[-1].read_bytes()
-            if not last.startswith(b'{"feed":3,'):
+            if not last.startswith(b'{"feed":4,'):
                 return False
             commit = last[-COMMIT_SIZE:].decode() if len(last) > 1024 else ""
             if (

@@ -6,7 +6,7 @@ from collections.abc import Sequence
 from typing import Any
 from unittest import mock
 
-from feed_text import Line
+from feed_text import Line, Message
 
 from pgsub_connect.commands import sink
 from pgsub_connect.commands.sink import Options
@@ -26,10 +26,10 @@ class SinkCase(FeedCase):
         super().setUp()
         self.at = self.feed.at
 
-    def take(self, *lines: Line) -> None:
+    def take(self, *lines: Line, messages: Sequence[Message] = ()) -> None:
         """Adds a commit."""
         self.at += 0x100
-        self.feed.commit(self.at, lines)
+        self.feed.commit(self.at, lines, messages=messages)
 
     def run_it(self, **more: Any) -> list[str]:
         """Writes what is there, and returns what is told beside the last line."""

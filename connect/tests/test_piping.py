@@ -255,7 +255,7 @@ class Faults(PipeCase):
         said = self.folder / "said"
         for text, error, told in (
             (b"hello\n", Damaged, "no line of a commit"),
-            (b'{"feed":3}\n', Damaged, "no head"),
+            (b'{"feed":4}\n', Damaged, "no head"),
             (b'{"feed":1,"base":"0/0"}\n', Damaged, "a feed of format 1, which an earlier version"),
             (b'{"feed', Passing, "it has ended"),
             (b"x" * (3 << 20), Passing, "a line is too long"),
@@ -384,7 +384,7 @@ class Serves(PipeCase):
             theirs.close()
             pipes = Pipes(mine.fileno(), mine.fileno(), lambda: None)
             pipes.put(b"0/0\n")
-            self.assertTrue(pipes.line().startswith(b'{"feed":3'))
+            self.assertTrue(pipes.line().startswith(b'{"feed":4'))
             self.assertTrue(pipes.line().startswith(b'{"at":1280,"op":"table"'))
             size = json.loads(pipes.line())["bytes"]
             self.assertEqual(sum(map(len, pipes.pieces(size))), size)

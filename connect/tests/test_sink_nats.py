@@ -18,7 +18,7 @@ from pgsub_feed.formats.keys import subject
 from pgsub_feed.interruption import never
 from pgsub_feed.sinks.connecting import is_loopback
 from pgsub_feed.sinks.nats_engine import each_server
-from pgsub_feed.sinks.nats_messages import read_id
+from pgsub_feed.sinks.nats_messages import FIRST, read_id
 from pgsub_feed.sinks.nats_wire import Wire, header_bytes, read_headers
 from pgsub_feed.tables.values import ALL_TEXT
 
@@ -148,14 +148,15 @@ class Messages(NatsCase):
     def test_subjects(self) -> None:
         self.assertEqual(subject("s", "", "tä>%"), "s.pg_catalog.t%C3%A4%3E%25")
         self.assertEqual(
-            [
-                read_id(it)
-                for it in ("0/1F:commit", "0/1F:base:3", "0/1F:base:0123abcd:3", "0/1F:12")
-            ],
-            [(31, None), (31, -1), (31, -1), (31, 12)],
+            [read_id(it) for it in ("0/1F:commit", "0/1F:base:3", "0/1F:base:0123abcd:3")],
+            [(31, None), (31, FIRST), (31, FIRST)],
         )
         self.assertEqual(
-            [read_id(it) for it in ("", "0/1F", "x:1", "0/1F:x", "123456789/0:1")], [None] * 5
+            [read_id(it) for it in ("0/1F:m12", "0/1F:12")], [(31, (False, 12)), (31, (True, 12))]
+        )
+        self.assertEqual(
+            [read_id(it) for it in ("", "0/1F", "x:1", "0/1F:x", "0/1F:m", "123456789/0:1")],
+            [None] * 6,
         )
 
 

@@ -152,7 +152,7 @@ class Texts(unittest.TestCase):
         text = segment_head(622870584, "7231", 'pu"b', "copy").decode()
         self.assertEqual(
             text,
-            '{"feed":3,"base":"0/25204038","system":"7231","database":"pu\\"b","slot":"copy"}'.ljust(
+            '{"feed":4,"base":"0/25204038","system":"7231","database":"pu\\"b","slot":"copy"}'.ljust(
                 1023
             )
             + "\n",

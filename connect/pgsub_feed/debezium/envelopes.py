@@ -7,6 +7,7 @@ is gone needs.
 | update of the key | `d` and a tombstone under the old key, `c` under the new one |
 | delete | `d` and a tombstone |
 | TRUNCATE | `t` without a key |
+| logical message | `m` under its prefix |
 
 A table without a key has no tombstones, and updates as they are.
 """
@@ -21,10 +22,11 @@ from ..column_types import KnownTypes
 from ..formats.lines import Selected, json_line
 from ..interruption import Check, never
 from ..known_tables import KnownTables
-from ..reader.commits import XID, Cells, Change, Commit, Head, Missed
+from ..reader.commits import XID, Cells, Change, Commit, Head, Message as Logical, Missed
 from ..reader.segments import Reader
 from ..relation import Relation, TableTypes
 from ..tables.indexes import OTHER, lacking, other_key
+from . import logical_messages
 from .settings import TOMBSTONES, TRANSACTIONS, Settings
 from .tables import Moment, Source, Table, field, schema_text, versioned
 
@@ -101,8 +103,11 @@ class Envelopes:
         self.counts = collections.Counter[str]()
         self.total = 0
 
-    def messages(self, it: Change | Missed) -> Iterator[Message]:
+    def messages(self, it: Logical | Change | Missed) -> Iterator[Message]:
         """Those of a change. One that found no row has none, which is told once."""
+        if isinstance(it, Logical):
+            yield self.logical(it)
+            return
         if isinstance(it, Missed):
             self.tell(
                 "x", f"{self.commit.text()}: a change that found no row is left out, and any later"
@@ -142,23 +147,39 @@ class Envelopes:
         is_to_all: bool = False,
     ) -> Message:
         relation = table.relation
-        self.total += 1
-        self.counts[table.collection] += 1
-        order: dict[str, object] = {
-            "id": self.id,
-            "total_order": self.total,
-            "data_collection_order": self.counts[table.collection],
-        }
         where = {"schema": relation.namespace or "pg_catalog", "table": relation.name}
         payload: dict[str, object] = {
             "before": table.row(before),
             "after": table.row(after),
             "source": self.source.told | where,
-            "transaction": order if self.id else None,
+            "transaction": self.order(table.collection),
             "op": op,
         }
         value = self.text(lambda: table.schema, payload | self.times)
         return Message(table.topic, key, value, n, part, is_to_all)
+
+    def logical(self, it: Logical) -> Message:
+        """That of a logical message."""
+        settings, order = self.settings, self.order(logical_messages.COLLECTION)
+        told = settings, self.times, self.source.told, order
+        value = logical_messages.value_of(it, *told)
+        return Message(
+            logical_messages.topic_of(settings),
+            self.text(lambda: logical_messages.KEY, logical_messages.key_of(it)),
+            self.text(lambda: logical_messages.schema_of(settings), value),
+            it.n,
+        )
+
+    def order(self, collection: str) -> dict[str, object] | None:
+        """Counts one more of a table, or a message. Returns where it is in its transaction."""
+        self.total += 1
+        self.counts[collection] += 1
+        order: dict[str, object] = {
+            "id": self.id,
+            "total_order": self.total,
+            "data_collection_order": self.counts[collection],
+        }
+        return order if self.id else None
 
     def text(self, schema: Callable[[], bytes], payload: object) -> bytes:
         if self.settings.schemas:
@@ -198,7 +219,7 @@ class Envelopes:
         yield Message(f"{self.settings.prefix}.transaction", key, value, n)
 
     def of_commit(
-        self, head: Head, commit: Commit, changes: Iterable[Change | Missed]
+        self, head: Head, commit: Commit, changes: Iterable[Logical | Change | Missed]
     ) -> Iterator[Message]:
         """All messages of a commit, in order."""
         self.begin(head, commit, commit.base is not None)
@@ -268,8 +289,7 @@ class Debezium(Selected):
 
     def print(self, reader: Reader, commit: Commit) -> Iterator[bytes]:
         assert reader.head
-        changes = self.changes(reader, commit)
-        for it in self.envelopes.of_commit(reader.head, commit, changes):
+        for it in self.envelopes.of_commit(reader.head, commit, self.all(reader, commit)):
             if self.with_keys:
                 yield (it.key or b"") + b"\t" + (it.value or b"") + b"\n"
             elif it.value is not None:

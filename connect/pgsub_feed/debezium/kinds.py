@@ -113,13 +113,15 @@ VARIABLE_SCALE = Kind(
     },
     values.variable_scale,
 )
-BYTES: dict[str, Kind] = {
-    "bytes": Kind({"type": "bytes"}, values.bytes_as(values.based)),
-    "base64": Kind(STRING, values.bytes_as(values.based)),
-    "base64-url-safe": Kind(
-        STRING, values.bytes_as(lambda it: base64.urlsafe_b64encode(it).decode())
-    ),
-    "hex": Kind(STRING, values.bytes_as(bytes.hex)),
+OF_BYTES: dict[str, Callable[[bytes], str]] = {
+    "bytes": values.based,
+    "base64": values.based,
+    "base64-url-safe": lambda it: base64.urlsafe_b64encode(it).decode(),
+    "hex": bytes.hex,
+}
+BYTES = {
+    mode: Kind({"type": "bytes"} if mode == "bytes" else STRING, values.bytes_as(form))
+    for mode, form in OF_BYTES.items()
 }
 
 

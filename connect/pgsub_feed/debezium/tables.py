@@ -69,6 +69,7 @@ TRANSACTION = {
     ),
     "field": "transaction",
 }
+TIMES = [field(f"ts_{it}", "int64", True) for it in ("ms", "us", "ns")]
 
 
 class Moment:
@@ -172,11 +173,8 @@ class Table:
             {**row, "field": "after"},
             SOURCE,
             TRANSACTION,
-            {"type": "string", "optional": False, "field": "op"},
-            *(
-                {"type": "int64", "optional": True, "field": f"ts_{it}"}
-                for it in ("ms", "us", "ns")
-            ),
+            field("op", "string", False),
+            *TIMES,
         ]
         return schema_text(versioned(f"{self.topic}.Envelope", 2, fields))
 

@@ -17,7 +17,7 @@ from collections.abc import Collection, Sequence
 from typing import Optional
 
 from ..json_texts import compact
-from ..reader.commits import Cell, Cells, Change, Missed, Unsent
+from ..reader.commits import Cell, Cells, Change, Message, Missed, Unsent
 from ..relation import Relation
 
 NULL = "%null"
@@ -89,6 +89,11 @@ def object_text(relation: Relation, cells: Sequence[Cell | Unsent]) -> str:
             if not isinstance(it, Unsent)
         }
     )
+
+
+def content_of(it: Message) -> str | dict[str, str]:
+    """What JSON has of a message's content."""
+    return it.content if isinstance(it.content, str) else {"hex": it.content.hex()}
 
 
 def entry(it: Change | Missed) -> dict[str, str]:

@@ -3,7 +3,7 @@
 | Format | Prints |
 |---|---|
 | `lines` | the feed's own lines, before each commit with the definitions that its changes name |
-| `objects` | an object for each change, its rows by the names of the columns |
+| `objects` | an object for each message and change, its rows by the names of the columns |
 
 Values are typed by the OID of the type: numbers where JSON has them, but a numeric, of which those
 who read JSON would take the nearest number alone; `bool` as true and false; and all else as the
@@ -17,13 +17,15 @@ from typing import Any
 
 from ..errors import Unfit
 from ..json_texts import compact
-from ..reader.commits import Cell, Change, Commit, Missed, TableLine, Unsent
+from ..reader.commits import Cell, Change, Commit, Message, Missed, TableLine, Unsent
 from ..reader.lines import MOST_DEFINITIONS
 from ..reader.segments import Reader
 from ..relation import Relation
 from ..tables.floats import printed_float
 from ..tables.table import Valued
 from ..tables.values import AS_TEXT, BOOL, BYTEA
+from ..texts import lsn_text
+from .keys import content_of
 
 Row = dict[str, Any] | None
 
@@ -45,9 +47,15 @@ class Selected:
 
     def changes(self, reader: Reader, commit: Commit) -> Iterator[Change | Missed]:
         """The changes of a commit."""
+        return (it for it in self.all(reader, commit) if not isinstance(it, Message))
+
+    def all(self, reader: Reader, commit: Commit) -> Iterator[Message | Change | Missed]:
+        """The messages of a commit, and its changes."""
         chosen = dict[int, bool]()
         for part in reader.parts(commit):
-            if isinstance(part, TableLine):
+            if isinstance(part, Message):
+                yield part
+            elif isinstance(part, TableLine):
                 chosen[part.relation.oid] = self.is_chosen(part.relation)
             elif chosen[part.relation.oid]:
                 yield part
@@ -133,31 +141,27 @@ class Lines:
 
 
 class ByName(Objects):
-    """An object for each change, its `id` made of the commit's LSN and its number in there."""
+    """An object for each message and change, its `id` made of the commit's LSN and its number in
+    there."""
 
     def __init__(self, is_chosen: Callable[[Relation], bool]) -> None:
         super().__init__(is_chosen, lambda it: "\\x" + it.hex())
 
     def print(self, reader: Reader, commit: Commit) -> Iterator[bytes]:
-        for it in self.changes(reader, commit):
-            relation = it.relation
-            told: dict[str, object] = {
-                "id": f"{commit.text()}:{it.n}",
-                "xid": commit.xid,
-                "ts_us": commit.ts_us,
-                "op": it.op if isinstance(it, Change) else "x",
-                "schema": relation.namespace,
-                "table": relation.name,
-            }
-            if isinstance(it, Change):
-                told |= {
-                    "before": self.row(relation, it.before),
-                    "after": self.row(relation, it.after),
-                }
-            else:
-                told |= {
-                    "sent": it.sent,
-                    "old": self.row(relation, it.old_cells()),
-                    "new": self.row(relation, it.new),
-                }
-            yield json_line(told)
+        about: dict[str, object] = {"xid": commit.xid, "ts_us": commit.ts_us}
+        for it in self.all(reader, commit):
+            kind = "m" if isinstance(it, Message) else ""
+            number: dict[str, object] = {"id": f"{commit.text()}:{kind}{it.n}"}
+            yield json_line(number | about | self.told(it))
+
+    def told(self, it: Message | Change | Missed) -> dict[str, object]:
+        if isinstance(it, Message):
+            where = {"op": "m", "lsn": lsn_text(it.lsn)}
+            return {**where, "prefix": it.prefix, "content": content_of(it)}
+        relation = it.relation
+        named = {"schema": relation.namespace, "table": relation.name}
+        if isinstance(it, Change):
+            before, after = (self.row(relation, row) for row in (it.before, it.after))
+            return {"op": it.op, **named, "before": before, "after": after}
+        old, new = (self.row(relation, row) for row in (it.old_cells(), it.new))
+        return {"op": "x", **named, "sent": it.sent, "old": old, "new": new}

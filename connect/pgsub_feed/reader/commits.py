@@ -78,6 +78,20 @@ class Cursor:
     at: int
 
 
+class Message(NamedTuple):
+    """A logical message of the transaction, as `pg_logical_emit_message` writes them: where it is in
+    the log, and its number among those of the commit. `content` is bytes where it is no text of
+    UTF-8, or has U+0000."""
+
+    lsn: int
+    prefix: str
+    content: str | bytes
+    n: int
+
+    def bytes(self) -> bytes:
+        return self.content.encode() if isinstance(self.content, str) else self.content
+
+
 class TableLine(NamedTuple):
     """The definition of a relation, for the changes of it that follow in the commit."""
 
@@ -113,4 +127,6 @@ class Missed(NamedTuple):
         return [cell if column.key else UNSENT for column, cell in pairs]
 
 
-Part = TableLine | Change | Missed
+# What a commit has of tables, and all of it: its messages come first.
+TablePart = TableLine | Change | Missed
+Part = Message | TablePart

@@ -12,14 +12,17 @@ from typing import Any, NoReturn, cast
 from ..errors import COUNTS, LINE, UNDESCRIBED, WIDTH, Damaged
 from ..relation import Column, Relation, Shape
 from ..texts import parse_lsn
-from .commits import UNSENT, Cells, Change, Closing, Commit, Head, Missed, Part, TableLine, Unsent
+from . import commits
+from .commits import UNSENT, Cells, Change, Commit, Head, Message, Missed, Part, TableLine, Unsent
 
-FORMAT = 3
+FORMAT = 4
 # How many bytes the head of a segment has, and the line of a commit, or that which closes a
 # segment.
 HEAD_SIZE, COMMIT_SIZE = 1024, 256
 # How many definitions are kept read, and how the line of one begins.
 MOST_DEFINITIONS, DEFINITION = 10000, b'{"op":"table",'
+# How the line of a message begins, as it is written, and its op.
+MESSAGE, OF_MESSAGE = b'{"op":"m",', "m"
 # How the line of a change begins, as it is written: it names where its definition stands.
 NAMING = re.compile(rb'\{"op":"\w","at":(\d+),')
 # The line of a commit as it is written.
@@ -109,7 +112,7 @@ def read_head(line: bytes) -> Head:
         raise ValueError from None
 
 
-def read_commit(line: bytes) -> Commit | Closing:
+def read_commit(line: bytes) -> Commit | commits.Closing:
     """The line of a commit, or that which closes a segment. A ValueError says that it is
     neither."""
     if plain := PLAIN.fullmatch(line):
@@ -125,13 +128,13 @@ def lsn_of(text: bytes) -> int:
     return (int(high, 16) << 32) + int(low, 16)
 
 
-def read_commit_object(line: bytes) -> Commit | Closing:
+def read_commit_object(line: bytes) -> Commit | commits.Closing:
     """The same of a line that isn't as it is written today: with more fields, or in another
     order."""
     found = read_object(line)
     try:
         if "last" in found:
-            return Closing(parse_lsn(text(found["last"])))
+            return commits.Closing(parse_lsn(text(found["last"])))
         ends = parse_lsn(text(found["end"])), parse_lsn(text(found["prev"]))
         sizes = natural(found["bytes"]), natural(found["changes"])
         about = found["lsn"], found["xid"], found["ts_us"]
@@ -211,7 +214,7 @@ def named_by(line: bytes) -> int | None:
     says so.)"""
     if named := NAMING.match(line):
         return int(named[1])
-    if line.startswith(DEFINITION):
+    if line.startswith((DEFINITION, MESSAGE)):
         return None
     with contextlib.suppress(KeyError, TypeError, ValueError):
         return natural(parsed(line)["at"])
@@ -219,8 +222,8 @@ def named_by(line: bytes) -> int | None:
 
 
 class Decoder:
-    """Reads the lines of commits. Before the first change of a relation in a commit it gives the
-    definition, wherever that stands."""
+    """Reads the lines of commits: the messages first. Before the first change of a relation in a
+    commit it gives the definition, wherever that stands."""
 
     def __init__(self) -> None:
         # definitions by their lines, and those of the segment by the offsets that changes name
@@ -237,7 +240,7 @@ class Decoder:
         `find` reads the line at an offset of the segment."""
         self.commit, self.fault, self.find_line = commit, fault, find
         self.described: dict[int, TableLine] = {}
-        self.n = self.offset = 0
+        self.n = self.messages = self.offset = 0
 
     def finish(self) -> None:
         if self.n != self.commit.changes:
@@ -252,14 +255,18 @@ class Decoder:
         parts, described = list[Part](), self.described
         for line, found in zip(lines, self.objects(lines), strict=True):
             try:
-                is_table = found["op"] == "table"
-                table = self.table(line, found) if is_table else self.table_of(found)
-                oid = table.relation.oid
-                if described.get(oid) is not table:
-                    described[oid] = table
-                    parts.append(table)
-                if not is_table:
-                    parts.append(self.change(table.relation, found))
+                op = found["op"]
+                if op == OF_MESSAGE:
+                    parts.append(self.message(found))
+                else:
+                    is_table = op == "table"
+                    table = self.table(line, found) if is_table else self.table_of(found)
+                    oid = table.relation.oid
+                    if described.get(oid) is not table:
+                        described[oid] = table
+                        parts.append(table)
+                    if not is_table:
+                        parts.append(self.change(table.relation, found))
             except (ValueError, KeyError, TypeError):
                 raise self.fault(
                     LINE, self.offset, f"this is no line of a commit: {shown(line)}"
@@ -286,6 +293,14 @@ class Decoder:
                 break
             self.offset += len(line) + 1
         raise self.fault(LINE, self.offset, f"this is no line of a commit: {shown(line)}")
+
+    def message(self, found: dict[str, Any]) -> Message:
+        """A message, which stands before all definitions and changes."""
+        content = read_cell(found["content"])
+        if self.described or content is None or isinstance(content, Unsent):
+            raise ValueError
+        n, self.messages = self.messages, self.messages + 1
+        return Message(parse_lsn(text(found["lsn"])), text(found["prefix"]), content, n)
 
     def table_of(self, found: dict[str, Any]) -> TableLine:
         """The definition of a change."""

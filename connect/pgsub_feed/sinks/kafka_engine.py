@@ -1,5 +1,5 @@
-"""Kafka: a topic for each table, and one, `PREFIX.position`, whose last message says where a sink
-is.
+"""Kafka: a topic for each table, one for the logical messages, and one, `PREFIX.position`, whose
+last message says where a sink is.
 
 Messages of some commits are sent, then waited for, then the position. So what is sent again after
 a kill is what follows the last position: at least once. Each message has the LSN of its commit and
@@ -23,7 +23,7 @@ from ..errors import TooLarge, Unfit
 from ..interruption import Check
 from ..json_texts import Unreadable, lsn_of, object_of, parsed, whole_of
 from ..known_tables import KnownTables
-from ..reader.commits import Change, Commit, Missed, TableLine
+from ..reader.commits import Change, Commit, Message as Logical, Missed, TableLine
 from ..reader.following import Chosen, Read
 from ..texts import lsn_text, shortened
 from .engine import Alone, Engine, Wanted, read_about, whole
@@ -134,9 +134,11 @@ class Kafka(Engine):
         for message in self.envelopes.of_commit(self.head, commit, self.changes(read)):
             yield self.sized(message, commit.end)
 
-    def changes(self, read: Read) -> Iterator[Change | Missed]:
+    def changes(self, read: Read) -> Iterator[Logical | Change | Missed]:
         for part in read():
-            if not isinstance(part, TableLine) and self.chosen(part.relation):
+            if isinstance(part, Logical):
+                yield part
+            elif not isinstance(part, TableLine) and self.chosen(part.relation):
                 yield part
 
     def sized(self, message: Message, lsn: int) -> Message:

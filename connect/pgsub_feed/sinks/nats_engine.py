@@ -14,7 +14,7 @@ from collections.abc import Iterator
 from .. import log
 from ..errors import Passing, TooLarge, Unfit
 from ..interruption import Check, rest
-from ..reader.commits import Commit, TableLine
+from ..reader.commits import Commit, Message, TableLine
 from ..reader.following import Chosen, Read
 from ..texts import lsn_text, shortened
 from .engine import Engine, Trail, Wanted, whole
@@ -22,10 +22,14 @@ from .first_rows import Base, numbered
 from .jetstream import JetStream, Stored
 from .nats_messages import (
     COMMIT,
+    FIRST,
+    Place,
+    Read as ReadId,
     Said,
     base_message,
-    change_message,
     last_message,
+    message_of,
+    place_of,
     read_id,
     read_last,
 )
@@ -46,8 +50,8 @@ class Nats(Engine):
     def __init__(self, stream: JetStream, check: Check) -> None:
         self.stream, self.name, self.check = stream, stream.stream, check
         self.end, self.looked = 0, time.monotonic()
-        # of the commit that is published in part: its end, the last change, and what it says
-        self.part: tuple[int, int] | None = None
+        # of the commit that is published in part: its end, its last message, and what that says
+        self.part: tuple[int, Place] | None = None
         self.part_said = b""
         # whether there is a part of a base
         self.has_left = False
@@ -71,21 +75,24 @@ class Nats(Engine):
             text = f"{self.stream.where}: messages are there, and its last one{found}: take another one, or remove it to begin anew"
             raise Unfit(text)
         commit = (
-            last if read.n is None else self.stream.message(last_by_subj=f"{self.name}.{COMMIT}")
+            last
+            if read.place is None
+            else self.stream.message(last_by_subj=f"{self.name}.{COMMIT}")
         )
-        if commit is None and read.n == -1:
+        if commit is None and read.place == FIRST:
             # (a base that was published in part; it goes once there is something to begin with)
             self.has_left = True
             return False
-        rows = self.go_on(commit, read.lsn, read.n)
+        rows = self.go_on(commit, read)
         self.part_said = last.data
         if rows is not None and last is commit and 0 < info.first < last.sequence - rows:
             # (an earlier base has left what is before the first message of the whole one)
             self.stream.purge(seq=last.sequence - rows)
         return True
 
-    def go_on(self, commit: Stored | None, lsn: int, n: int | None) -> int | None:
-        """Goes on after the last message of a commit, and the messages of a part of the next one.
+    def go_on(self, commit: Stored | None, last: ReadId) -> int | None:
+        """Goes on after the last message of a commit, and those of a part of the next one, up to
+        the last that is there.
         Returns how many rows that commit has, which is a base."""
         try:
             at, about, rows = read_last(commit.data if commit else b"")
@@ -98,7 +105,7 @@ class Nats(Engine):
             raise Unfit(text)
         self.at = self.end = at
         self.trail.note(at, time.monotonic())
-        self.part = None if n is None else (lsn, n)
+        self.part = None if last.place is None else (last.lsn, last.place)
         return rows
 
     def remove_left(self) -> None:
@@ -138,13 +145,15 @@ class Nats(Engine):
 
     def messages(self, commit: Commit, read: Read) -> Iterator[Said]:
         """A commit's messages that aren't there yet, none where one of them is too large."""
-        after = self.part[1] if self.part else -1
-        is_known = after < 0
+        after = self.part[1] if self.part else FIRST
+        is_known = after == FIRST
         for part in read():
-            if isinstance(part, TableLine) or part.n < after or not self.chosen(part.relation):
+            if isinstance(part, TableLine) or (place := place_of(part)) < after:
                 continue
-            message = change_message(self.name, commit, part)
-            if part.n > after:
+            if not isinstance(part, Message) and not self.chosen(part.relation):
+                continue
+            message = message_of(self.name, commit, part)
+            if place > after:
                 yield self.sized(message)
             else:
                 is_known = message.payload == self.part_said
@@ -163,7 +172,7 @@ class Nats(Engine):
         if size + 20 > most:
             self.settle()
             raise TooLarge(
-                f"{message.id}: a change of {message.about} makes a message of {size} bytes, and {self.stream.where} takes {most}:"
+                f"{message.id}: {message.about} makes a message of {size} bytes, and {self.stream.where} takes {most}:"
                 " raise its max_payload"
             )
         return message

@@ -1,8 +1,9 @@
-"""The messages of a commit: one of each change, and a last one.
+"""The messages of a commit: one of each logical message and each change, and a last one.
 
 | Message | Its id | Its subject | Says |
 |---|---|---|---|
 | a row of a base | `0/500:base:5c0f1a9e:7` | `pgsub.public.stock` | as a change, with the op `r` |
+| a logical message | `0/600:m0` | `pgsub.message` | `end`, `n`, its number among these, `op`, `lsn`, `prefix` and `content` |
 | a change | `0/600:0` | `pgsub.public.stock` | `end`, `n`, `op`, `schema`, `table`, `oid`, and the rows `before` and `after` |
 | the last one | `0/600:commit` | `pgsub.commit` | what the feed has of the commit, and what is kept of which feed; of a base, how many `rows` it has |
 
@@ -15,16 +16,22 @@ import json
 import re
 from typing import Any, NamedTuple
 
-from ..formats.keys import base_entry, entry, subject
+from ..formats.keys import base_entry, content_of, entry, subject
 from ..json_texts import compact, lsn_of, object_of, parsed, whole_of
-from ..reader.commits import Cells, Change, Commit, Missed
+from ..reader.commits import Cells, Change, Commit, Message, Missed
 from ..relation import Relation
 from ..texts import lsn_text, parse_lsn
 from .engine import read_about
 
 # (an earlier version of this program gave bases no numbers)
-ID = re.compile(r"([0-9A-F]+/[0-9A-F]+):(?:(commit)|(base:(?:[0-9a-f]{8}:)?[0-9]+)|([0-9]{1,18}))")
-COMMIT = "commit"
+ID = re.compile(
+    r"([0-9A-F]+/[0-9A-F]+):(?:(commit)|(base:(?:[0-9a-f]{8}:)?[0-9]+)|(m?)([0-9]{1,18}))"
+)
+# What the subjects of these have in the place of a table.
+COMMIT, MESSAGE = "commit", "message"
+# Where a message is in its commit: whether it is of a change, and the number among such.
+Place = tuple[bool, int]
+FIRST: Place = (False, -1)
 
 
 class Said(NamedTuple):
@@ -37,10 +44,11 @@ class Said(NamedTuple):
 
 
 class Read(NamedTuple):
-    """What a message's id says: its LSN and change; None of the last one, -1 of a base."""
+    """What a message's id says: its LSN and where it is there; None of the last one, `FIRST` of one
+    of a base."""
 
     lsn: int
-    n: int | None
+    place: Place | None
 
 
 def read_id(text: str) -> Read | None:
@@ -48,9 +56,9 @@ def read_id(text: str) -> Read | None:
     found = ID.fullmatch(text)
     if found is None:
         return None
-    lsn, commit, base, n = found.groups()
+    lsn, commit, base, kind, n = found.groups()
     try:
-        return Read(parse_lsn(lsn), None if commit else -1 if base else int(n))
+        return Read(parse_lsn(lsn), None if commit else FIRST if base else (not kind, int(n)))
     except ValueError:
         return None
 
@@ -68,10 +76,25 @@ def row_message(
     }
     body = ",".join(f'"{name}":{it}' for name, it in fields.items())
     to = subject(stream, relation.namespace, relation.name)
-    return Said(to, id, f"{{{body}}}".encode(), relation.text())
+    return Said(to, id, f"{{{body}}}".encode(), f"a change of {relation.text()}")
 
 
-def change_message(stream: str, commit: Commit, it: Change | Missed) -> Said:
+def place_of(it: Message | Change | Missed) -> Place:
+    return not isinstance(it, Message), it.n
+
+
+def message_of(stream: str, commit: Commit, it: Message | Change | Missed) -> Said:
+    """That of a logical message, or of a change."""
+    if isinstance(it, Message):
+        where: dict[str, object] = {
+            "end": commit.text(),
+            "n": it.n,
+            "op": "m",
+            "lsn": lsn_text(it.lsn),
+        }
+        payload = compact(where | {"prefix": it.prefix, "content": content_of(it)}).encode()
+        about = f"the message {it.n}, {it.prefix!r},"
+        return Said(f"{stream}.{MESSAGE}", f"{commit.text()}:m{it.n}", payload, about)
     return row_message(stream, it.relation, commit.end, it.n, f"{commit.text()}:{it.n}", entry(it))
 
 

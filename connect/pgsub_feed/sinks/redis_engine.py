@@ -7,6 +7,7 @@
 | `pgsub:feed` | what is kept, and of what it is a feed |
 | `pgsub:tables` | the definitions that were told last, and the names of tables |
 | `pgsub:loading` | while the rows of a base are written: the names of its tables |
+| `pgsub:message` | with `--as streams`: the stream of logical messages |
 
 The first two are watched from one MULTI to the next. So where another sink has begun, or has
 written, a MULTI has no effect at all.
@@ -25,7 +26,7 @@ from ..errors import EngineError, Passing, Stopped, Unfit
 from ..interruption import Check, at_most, never
 from ..json_texts import list_of, parsed, text_of
 from ..known_tables import KnownTables
-from ..reader.commits import Cells, Change, Commit, Missed, TableLine
+from ..reader.commits import Cells, Change, Commit, Message, Missed, TableLine
 from ..reader.following import Read
 from ..texts import lsn_text, parse_lsn, shortened
 from .engine import Engine, Wanted
@@ -55,6 +56,9 @@ class Form(Holder):
 
     def change(self, kept: Kept, it: Change | Missed, commit: Commit) -> None:
         """A change of a commit."""
+
+    def message(self, it: Message, commit: Commit) -> None:
+        """A message of a commit."""
 
     def size(self) -> int:
         """About how many commands wait."""
@@ -290,6 +294,9 @@ class Redis(Engine):
     def take(self, commit: Commit, read: Read) -> None:
         described = dict[int, Optional[Kept]]()
         for part in read():
+            if isinstance(part, Message):
+                self.form.message(part, commit)
+                continue
             oid = part.relation.oid
             if isinstance(part, TableLine):
                 described[oid] = self.relations.describe(part.relation, commit.end)

@@ -1,16 +1,19 @@
 """A stream of Redis for each table: an entry for each change, its id the LSN at which its commit
-ends and its number in there."""
+ends and its number in there; and one for the logical messages, with their numbers."""
 
-from collections.abc import Iterable, Iterator
+from collections.abc import Iterable, Iterator, Mapping
 
 from ..errors import Unfit
 from ..formats.keys import base_entry, entry
-from ..reader.commits import Cells, Change, Commit, Missed
+from ..reader.commits import Cells, Change, Commit, Message, Missed
+from ..texts import lsn_text
 from .redis_calls import Calls, Command, Said, raised, understood
 from .redis_engine import Form
 from .relations import Kept
 
 NONE = (0, 0)
+# The stream of the messages.
+MESSAGES = "pgsub:message"
 
 
 class Streams(Form):
@@ -31,17 +34,21 @@ class Streams(Form):
         self.waiting.clear()
         self.first.clear()
 
-    def add(self, kept: Kept, lsn: int, n: int, told: dict[str, str]) -> None:
-        self.first.setdefault(kept.name, (lsn, n))
+    def add(self, stream: str, lsn: int, n: int, told: Mapping[str, str | bytes]) -> None:
+        self.first.setdefault(stream, (lsn, n))
         self.waiting.append(
-            ("XADD", kept.name, f"{lsn}-{n}", *(it for pair in told.items() for it in pair))
+            ("XADD", stream, f"{lsn}-{n}", *(it for pair in told.items() for it in pair))
         )
 
     def put(self, kept: Kept, row: Cells, n: int, lsn: int) -> None:
-        self.add(kept, lsn, n, base_entry(kept.relation, row))
+        self.add(kept.name, lsn, n, base_entry(kept.relation, row))
 
     def change(self, kept: Kept, it: Change | Missed, commit: Commit) -> None:
-        self.add(kept, commit.end, it.n, entry(it))
+        self.add(kept.name, commit.end, it.n, entry(it))
+
+    def message(self, it: Message, commit: Commit) -> None:
+        told = {"op": "m", "lsn": lsn_text(it.lsn), "prefix": it.prefix}
+        self.add(MESSAGES, commit.end, it.n, {**told, "content": it.bytes()})
 
     def watched(self) -> list[str]:
         return list(self.first)

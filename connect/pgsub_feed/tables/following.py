@@ -16,7 +16,7 @@ from ..files import OF_FILE, meant, own_name, remove, remove_files, sync_folder
 from ..interruption import Check
 from ..known_tables import KnownTables
 from ..reader.base import base_of_feed
-from ..reader.commits import Change, Commit, Cursor, Missed, Part, TableLine
+from ..reader.commits import Change, Commit, Cursor, Message, Missed, Part, TableLine
 from ..reader.folder import Noted, segments
 from ..reader.following import Following, Read, Reading
 from ..reader.polling import Parent, Poll
@@ -55,7 +55,9 @@ class Way:
         """Notes what a commit tells of relations, by definitions or by rows of another one."""
         last: Relation | None = None
         for part in parts:
-            if part.relation is not last and not isinstance(part, Missed):
+            if isinstance(part, (Message, Missed)):
+                continue
+            if part.relation is not last:
                 last = part.relation
                 self.told.pop(last.oid, None)
                 self.told[last.oid] = last
@@ -115,7 +117,7 @@ def turned(rows: Rows, commit: Commit, parts: list[Part]) -> Iterator[Part]:
     """What takes a commit back: its changes turned round, the last one first."""
     described: dict[int, Relation] = {}
     for part in reversed(parts):
-        if isinstance(part, TableLine):
+        if isinstance(part, (Message, TableLine)):
             continue
         relation = part.relation
         if described.get(relation.oid) != relation:

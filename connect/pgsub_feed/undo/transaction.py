@@ -13,7 +13,7 @@ from .. import log
 from ..errors import Unfit
 from ..formats.keys import key_of
 from ..interruption import Check
-from ..reader.commits import XID, Cell, Change, Commit, Missed, TableLine
+from ..reader.commits import XID, Cell, Change, Commit, Message, Missed, TableLine
 from ..reader.following import Chosen
 from ..reader.polling import Poll
 from ..reader.segments import Reader
@@ -189,6 +189,8 @@ class Undoing:
     def take(self, reader: Reader, commit: Commit) -> None:
         chosen = dict[int, bool]()
         for part in reader.parts(commit):
+            if isinstance(part, Message):
+                continue
             relation = part.relation
             if isinstance(part, TableLine):
                 chosen[relation.oid] = self.is_chosen(relation)
