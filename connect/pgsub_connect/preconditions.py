@@ -47,6 +47,7 @@ class Purpose:
     copies: bool = True
     failover: bool = False
     all_tables: bool = False
+    messages: bool = False
 
 
 Judged = Iterator[Result]
@@ -86,6 +87,10 @@ def judge_version(facts: Facts, purpose: Purpose) -> Judged:
             yield error("failover", f"{text}: slots with --failover need 17")
         else:
             yield ok("failover", "slots can be handed on to standbys")
+    if purpose.messages and version < STREAMS:
+        yield error("messages", f"{text}: --messages needs 14")
+    elif purpose.messages:
+        yield ok("messages", "logical messages are sent, and large transactions come whole")
 
 
 def judge_wal_level(facts: Facts, purpose: Purpose) -> Judged:
@@ -332,9 +337,22 @@ def results(facts: Facts, purpose: Purpose) -> list[Result]:
     return [result for judge in JUDGES for result in judge(facts, purpose)]
 
 
-def require(connection: Connection, name: str, copies: bool, failover: bool) -> None:
+def require_messages(version: int) -> None:
+    """Ends a start where the server sends no messages."""
+    if version < STREAMS:
+        text = f"--messages needs PostgreSQL 14, and this is {version_text(version)}"
+        raise UsageError(
+            f"{text}: leave it out, or say --without-messages where it was said before"
+        )
+
+
+def require(
+    connection: Connection, name: str, copies: bool, failover: bool, messages: bool = False
+) -> None:
     """Ends a start where the server can't do, before anything is made there."""
     facts = server_facts(connection, name)
+    if messages:
+        require_messages(facts.version)
     if failover and facts.version < FAILOVER:
         text = f"--failover needs PostgreSQL 17, and this is {version_text(facts.version)}"
         raise UsageError(text)

@@ -3,6 +3,7 @@
 from __future__ import annotations
 
 import contextlib
+import io
 import os
 import sqlite3
 from collections.abc import Callable
@@ -20,7 +21,7 @@ from pgsub_connect.status.progress import Progress
 from pgsub_connect.store.checkpoint import LONGEST_PATH, Checkpoint, read_known
 from pgsub_connect.store.checkpoint_lines import COPIED, COPYING, FOLLOWING, SLOT, Known
 from pgsub_connect.stream.common import Common, Tolerance
-from pgsub_feed.errors import Failure, FileError, Passing, Stopped, Unfit
+from pgsub_feed.errors import Failure, FileError, Passing, Stopped, Unfit, UsageError
 from pgsub_feed.interruption import never
 from pgsub_feed.relation import Relation, Shape
 from pgsub_feed.tables.schema import RELATIONS, definition
@@ -41,7 +42,12 @@ class Begun(Quiet):
         self.rows, self.feed = self.folder + "/rows.db", self.folder + "/far"
 
     def followed(
-        self, phase: str = FOLLOWING, tables: str = "", feed: str = "", has_base: bool = False
+        self,
+        phase: str = FOLLOWING,
+        tables: str = "",
+        feed: str = "",
+        has_base: bool = False,
+        messages: int = 0,
     ) -> None:
         """A store that was followed so."""
         Path(self.store).touch()
@@ -49,7 +55,7 @@ class Begun(Quiet):
         checkpoint.write(True, phase=phase, system="77", database="shop", slot="app")
         checkpoint.note_tables(tables)
         os.close(checkpoint.file)
-        Remembered(self.store).note_feed(feed, has_base)
+        Remembered(self.store).note_feed(feed, has_base, messages)
 
     def follow(self, *words: str) -> follow.Options:
         options: follow.Options = settled(["follow", "--store", self.store, *words])
@@ -132,6 +138,41 @@ class Remembers(Begun):
             self.assertEqual(self.follow().feed_base, found)
             self.assertEqual(self.follow("--feed", self.feed).feed_base, "yes")
             self.assertEqual(self.follow("--feed-base", "no").feed_base, "no")
+
+    def test_messages(self) -> None:
+        """Once they were asked for they come, until they are left, or the feed is."""
+        feed = ("--feed", self.feed)
+        for words, most in ((feed, 0), ((*feed, "--messages"), 64 << 20), ((), 0)):
+            self.assertEqual(self.follow(*words).messages, most)
+        self.assertEqual(self.follow(*feed, "--messages", "5MB").messages, 5 << 20)
+        self.assertEqual(self.follow("--tables", self.rows, "--messages").messages, 64 << 20)
+        with self.assertRaisesRegex(UsageError, "^--messages needs --feed$"):
+            self.follow("--messages")
+        self.followed(feed=self.feed, messages=7)
+        for words, most in (
+            ((), 7),
+            (feed, 7),
+            (("--messages", "9B"), 9),
+            (("--without-messages",), 0),
+            (("--without-feed",), 0),
+            (("--without-feed", "--feed", "new", "--messages", "8B"), 8),
+        ):
+            self.assertEqual(self.follow(*words).messages, most, words)
+        options = self.follow()
+        told = options.feed_settings(self.store, 0o600), options.copy_settings()
+        self.assertEqual((told[0].messages, told[1].messages), (7, True))
+        self.assertTrue(options.follow_settings().messages)
+        with self.assertRaises(SystemExit), contextlib.redirect_stderr(io.StringIO()) as said:
+            self.follow("--messages", "--without-messages")
+        self.assertIn("exclude each other", said.getvalue())
+
+    def test_what_an_earlier_version_has_remembered(self) -> None:
+        """It knew of no messages."""
+        self.followed(feed=self.feed, messages=7)
+        path = Path(self.store + ".tables")
+        path.write_text(path.read_text().replace('"messages":7,', ""))
+        found = Remembered(self.store)
+        self.assertEqual((found.feed, found.messages), (self.feed, 0))
 
     def test_the_slot_of_an_interrupted_copy(self) -> None:
         for phase, is_made in ((COPYING, False), (SLOT, True)):

@@ -98,6 +98,12 @@ class Judging(unittest.TestCase):
             has_store=True,
         )
 
+    def test_messages(self) -> None:
+        old = changed(version=130022)
+        self.expect(ERROR, "messages", "PostgreSQL 13.22: --messages needs 14", old, messages=True)
+        self.expect(OK, "messages", "large transactions come whole", well(), messages=True)
+        self.assertEqual(self.found(old, Purpose(), "messages"), [])
+
     def test_server(self) -> None:
         self.expect(
             ERROR, "wal_level", "replica: it has to be logical", with_setting(wal_level="replica")
@@ -417,6 +423,10 @@ class Asking(unittest.TestCase):
             UsageError, "--failover needs PostgreSQL 17, and this is 15.18"
         ):
             require(connection_to(self.server(150018)), "pgsub", True, True)
+        with self.assertRaisesRegex(
+            UsageError, "^--messages needs PostgreSQL 14, and this is 13.9: leave it out, or say"
+        ):
+            require(connection_to(self.server(130009)), "pgsub", True, False, True)
 
 
 class Printing(unittest.TestCase):

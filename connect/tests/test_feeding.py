@@ -5,6 +5,7 @@ from __future__ import annotations
 
 import dataclasses
 import os
+import re
 import stat
 import subprocess
 import sys
@@ -193,6 +194,7 @@ class Followed(Case):
             follower.life.filter.words[-12:],
             [*words, "--feed-segment-bytes", "5000", "--feed-segment-seconds", "60"],
         )
+        self.assertEqual(Remembered(self.store).messages, 0)
         # (of a store that was followed, the checkpoint knows it)
         self.server.to_send = [keepalive(0x400)]
         self.run_until(follower, lambda: self.confirmed() == 0x400)
@@ -254,15 +256,32 @@ class Followed(Case):
         self.feed = self.folder + "/other"
         self.assertEqual(self.ends(), [0x308])
 
+    def test_messages(self) -> None:
+        follower = self.fed(settings={"messages": 5000})
+        self.assertEqual(follower.life.filter.words[-2:], ["--messages", "5000"])
+        self.assertEqual(Remembered(self.store).messages, 5000)
+        # one that has too many ends it, and tells of which commit; another try would be the same
+        self.server.to_send = [begin(0x100, 7), inserted(1), commit(0x100, 0x108)]
+        lines = "pgsub: feed 4 MessagesTooLong\npgsub: store 8 Refused"
+        Path(self.store + ".says").write_text(f"rejects {0x108} 13 {lines}")
+        with self.assertRaises(FilterEnded) as ended:
+            self.run_until(follower, lambda: False)
+        self.assertEqual((ended.exception.status, ended.exception.exit_status()), (13, 1))
+        for told in (
+            "a transaction has more than 5000 bytes of messages: give --messages more",
+            "rejected: transaction 7, final LSN 0/100, .*: --skip 0/100 passes over it",
+        ):
+            self.assertTrue(any(re.search(told, it) for it in self.said), (told, self.said))
+
     def test_a_feed_of_an_earlier_version(self) -> None:
         self.follow_once()
         (path,) = (Path(self.feed) / name for _, name in segments(self.feed))
-        text = path.read_bytes().replace(b'{"feed":3,', b'{"feed":2,')
+        text = path.read_bytes().replace(b'{"feed":4,', b'{"feed":3,')
         path.write_bytes(text)
         with self.assertRaises(FilterEnded) as ended:
             self.run_until(self.fed(), lambda: False)
         self.assertEqual(ended.exception.status, 3)
-        told = "a feed of format 2, which an earlier version writes"
+        told = "a feed of format 3, which an earlier version writes"
         self.assertTrue(any(told in it and "--without-feed" in it for it in self.said), self.said)
         self.assertEqual(path.read_bytes(), text)
 

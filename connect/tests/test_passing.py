@@ -13,16 +13,19 @@ from unittest import mock
 from pgsub_connect.drift.remembered import Remembered
 from pgsub_connect.errors import ServerError
 from pgsub_connect.follow.follower import Follower
+from pgsub_connect.follow.settings import StreamForm
 from pgsub_connect.record import Aside, Recording
 from pgsub_connect.status.progress import Progress
 from pgsub_connect.store.checkpoint import Checkpoint
 from pgsub_connect.stream.filter import Filter
 from pgsub_connect.stream.filter_end import REJECTED, FilterEnded
 from pgsub_connect.stream.filter_input import PIECE, ROOM
+from pgsub_feed.errors import UsageError
 
 from .asking import snapshots_of
 from .followed import followed
-from .vectors import a_catalog, a_table, begin, commit, insert, keepalive, logged, relation
+from .vectors import a_catalog, a_table, begin, commit, insert, keepalive, logged, logical
+from .vectors import relation
 
 FAKE = os.path.join(os.path.dirname(os.path.abspath(__file__)), "fake_filter.py")
 
@@ -145,6 +148,31 @@ class Passes(Case):
         self.recording.flush()
         with open(self.recording.path, encoding="ascii") as file:
             self.assertIn("# protocol version 1, from 0/100", file.read())
+
+    def test_logical_messages(self) -> None:
+        """They are asked for in whole transactions, and passed on as they come, but for those of a
+        commit that is skipped."""
+        form = self.follower.life.form = StreamForm(2, self.follower.life.form.skipping, True)
+        self.assertEqual((form.choose(150018), form.asks_for()), (2, ["messages"]))
+        command = form.command("pgsub", ["pgsub"], 0)
+        self.assertIn("proto_version '2'", command)
+        self.assertIn("messages 'true'", command)
+        self.assertNotIn("streaming", command)
+        self.assertFalse(form.stop_streaming("so"))
+        with self.assertRaisesRegex(UsageError, "--messages needs PostgreSQL 14, and this is 13.9"):
+            form.choose(130009)
+        self.assertEqual(StreamForm(1, form.skipping, True).choose(150018), 1)
+        pair = [begin(0x100, 7), logical(0xF0), insert(1), logical(0xF8), commit(0x100, 0x108)]
+        payloads = [logical(0xE0, 0), *pair, logical(0x200, 0)]
+        self.take(Source(payloads))
+        self.assertEqual(self.pushed(), framed(*payloads))
+        self.assertEqual(list(self.follower.noting.ends), [0x108])
+        self.child.input.pending.clear()
+        form.skipping.begin_session(0x200)
+        skipped = [begin(0x210, 7), logical(0x208), insert(1), commit(0x210, 0x218)]
+        with logged():
+            self.take(Source(skipped))
+        self.assertEqual(self.pushed(), framed(skipped[0], skipped[-1]))
 
     def test_whole_transactions_while_it_is_to_come(self) -> None:
         with logged():

@@ -21,6 +21,8 @@ from pgsub_feed.relation import Relation
 
 from .vectors import ID, NAME, PGSUB, a_catalog, a_shape, a_table
 
+# Of what is kept, what is a whole number.
+NUMBERS = ("format", "messages")
 MORE = (0, "more", 23, -1)
 T, U = a_table(1, "t"), a_table(2, "u")
 WIDER = a_shape([ID, NAME, MORE])
@@ -214,7 +216,8 @@ class File(Case):
             b'"text"',
             b"\xff\xfe",
             b'{"format": 2}',
-            *(json.dumps({**said, name: 5}).encode() for name in said if name != "format"),
+            *(json.dumps({**said, name: 5}).encode() for name in said if name not in NUMBERS),
+            json.dumps({**said, "messages": -1}).encode(),
         ]
         for content in (*pieces, *others):
             with open(self.store + ".tables", "wb") as file:

@@ -55,6 +55,16 @@ class File(Quiet):
             self.names = names
             self.assertEqual((self.file.since(), self.is_kept()), (since, since > 0), names)
 
+    def test_it_is_with_messages_or_without(self) -> None:
+        """A commit that has nothing else comes with them alone."""
+        names, others = (lambda: self.names), (lambda: ["", "a", "b"])
+        with_messages = RepeatsFile(self.store, self.checkpoint, names, True)
+        for one, other in ((self.file, with_messages), (with_messages, self.file)):
+            one.begin_at(0x108)
+            self.assertEqual((one.since(), other.since()), (0x108, 0))
+        with_messages.begin_at(0x108)
+        self.assertEqual(RepeatsFile(self.store, self.checkpoint, others).since(), 0)
+
     def test_a_store_at_the_beginning(self) -> None:
         self.file.begin_at(0)
         self.assertEqual((self.file.since(), self.is_kept()), (1, True))

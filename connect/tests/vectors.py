@@ -45,6 +45,11 @@ def commit(lsn: int, end: int) -> bytes:
     return data(struct.pack(">cBQQq", b"C", 0, lsn, end, 0))
 
 
+def logical(lsn: int, flags: int = 1) -> bytes:
+    """A logical message: 1 of a transaction, 0 of none."""
+    return data(struct.pack(">cBQ", b"M", flags, lsn) + b"order\0\0\0\0\1x")
+
+
 def start(xid: int, first: bool) -> bytes:
     return data(struct.pack(">cIB", b"S", xid, first))
 

@@ -8,18 +8,21 @@ import sys
 
 from pgsub_feed.interruption import Check
 from pgsub_feed.log import escaped
-from pgsub_feed.options import add_fields, flag
+from pgsub_feed.options import add_fields, flag, option, size
 
+from ..drift.remembered import Remembered
 from ..preconditions import ERROR, Purpose, results
 from ..server.preflight import all_facts
 from ..server.transport import OWN
 from ..store.at_rest import is_whole
 from ..store.full_check import judge_rows
+from .arguments.feed import MOST_OF_MESSAGES
 from .arguments.server import (
     CopyOptions,
     StoreOptions,
     add_copying,
     check_publishing,
+    has_begun,
     settled_store,
 )
 from .arguments.session import program, program_option
@@ -41,11 +44,19 @@ class Options(StoreOptions, CopyOptions):
         False,
     )
     pgsub: str = program_option()
+    messages: int = option(
+        "what following with --messages needs, too (default: as the store has had it)",
+        0,
+        nargs="?",
+        const=MOST_OF_MESSAGES,
+        type=size,
+    )
     json: bool = flag("print a JSON array")
 
     def purpose(self) -> Purpose:
         has_store, copies = bool(self.store and is_whole(self.store)), not self.no_copy
-        more = copies, self.failover, self.all_tables
+        is_told = self.messages or has_begun(self.store) and Remembered(self.store).messages
+        more = copies, self.failover, self.all_tables, bool(is_told)
         # (where nothing is said of a start without a store, it is one with --create)
         return Purpose(self.slot, self.keyless, has_store, bool(self.create) or copies, *more)
 

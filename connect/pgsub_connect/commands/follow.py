@@ -81,11 +81,13 @@ class Options(
 
     def follow_settings(self) -> FollowSettings:
         more = self.skip, self.until, self.no_copy, self.limits(), self.renewed()
-        return FollowSettings(self.store, self.proto, self.heartbeat, self.silence, *more)
+        settings = FollowSettings(self.store, self.proto, self.heartbeat, self.silence, *more)
+        return dataclasses.replace(settings, messages=bool(self.messages))
 
     def copy_settings(self) -> CopySettings:
         wanted = self.wanted(self.publication)
-        return CopySettings(self.store, wanted, self.limits(), self.failover, self.jobs, self.mode)
+        more = self.limits(), self.failover, self.jobs, self.mode, bool(self.messages)
+        return CopySettings(self.store, wanted, *more)
 
     def report_settings(self) -> ReportSettings:
         is_asked_for = bool(self.status_file or self.metrics_file)
@@ -116,6 +118,8 @@ def check_options(parser: argparse.ArgumentParser, options: Options) -> Options:
     check_needs(parser, options, *of_store, ("snapshot_every", "snapshot"))
     if options.tables and options.without_tables:
         parser.error("--tables and --without-tables exclude each other")
+    if options.messages and options.without_messages:
+        parser.error("--messages and --without-messages exclude each other")
     check_numeric(parser, options.numeric, options.digests)
     if options.strict and options.watch == session.NO:
         parser.error("--strict and --watch no exclude each other")
@@ -292,7 +296,8 @@ def begin_watching(options: Options, common: Common, child: Filter) -> None:
         # (commits come now that aren't noted)
         return common.checkpoint.forget_repeats()
     subscription = common.subscription
-    file = RepeatsFile(options.store, common.checkpoint, lambda: subscription.publications)
+    asked = (lambda: subscription.publications), bool(options.messages)
+    file = RepeatsFile(options.store, common.checkpoint, *asked)
     return child.note_repeats(file)
 
 
@@ -327,6 +332,7 @@ def begin(options: Options, parts: Parts) -> None:
         raise no_store(options)
     if options.create:
         wanted, check = options.wanted(options.publication), parts.follower.ending.check_stop
-        create_slot(subscription, wanted, options.failover, check, remembered)
+        more = check, remembered, bool(options.messages)
+        create_slot(subscription, wanted, options.failover, *more)
     else:
         remembered.remove()

@@ -59,7 +59,8 @@ NOTED = 1.0
 @dataclasses.dataclass(frozen=True)
 class CopySettings:
     """Where the copy is made, what is published for it where nothing is yet, and how it is read:
-    by so many connections. `failover`: the slot is synchronized to standbys."""
+    by so many connections. `failover`: the slot is synchronized to standbys; `messages`: those are
+    asked for later."""
 
     store: str
     wanted: Wanted
@@ -67,6 +68,7 @@ class CopySettings:
     failover: bool = False
     jobs: int = 2
     mode: int = 0o600
+    messages: bool = False
 
 
 class Copier(Worker):
@@ -214,7 +216,8 @@ class Copier(Worker):
 
     def copy_anew(self, replication: Connection, server: Server) -> None:
         """Makes publication, rows and slot."""
-        require(replication, self.subscription.slot, True, self.settings.failover)
+        wanted = self.settings.failover, self.settings.messages
+        require(replication, self.subscription.slot, True, *wanted)
         self.clear()
         self.checkpoint.begin_anew()
         self.checkpoint.write(

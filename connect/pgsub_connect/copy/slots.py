@@ -68,6 +68,7 @@ def create_slot(
     failover: bool,
     check: Check,
     remembered: Remembered | None = None,
+    messages: bool = False,
 ) -> None:
     """Makes publications and slot, without rows, where they aren't there, and remembers what is
     published from then on.
@@ -81,7 +82,7 @@ def create_slot(
     connection = Connection(subscription.dsn, replication=True, name=slot, check=check)
     try:
         settle(connection)
-        is_there = has_slot(connection, subscription, failover)
+        is_there = has_slot(connection, subscription, failover, messages)
         maker.make()
         subscription.note_publications(maker.publications)
         if not is_there:
@@ -103,10 +104,12 @@ def create_slot(
         connection.close()
 
 
-def has_slot(connection: Connection, subscription: Subscription, failover: bool) -> bool:
+def has_slot(
+    connection: Connection, subscription: Subscription, failover: bool, messages: bool
+) -> bool:
     """Whether the slot is there. Raises where it can't be made, or lacks publications."""
     if slot_position(connection, subscription.slot) is None:
-        require(connection, subscription.slot, False, failover)
+        require(connection, subscription.slot, False, failover, messages)
         return False
     if missing := [it for it in subscription.publications if not has_publication(connection, it)]:
         # (its log is read by the catalog of its time, which hasn't the publication)

@@ -28,6 +28,8 @@ class Baseline:
         self.made: dict[str, int] = {}
         # the folder of the store's feed
         self.feed = ""
+        # how many bytes of messages that gets of a transaction at most, 0 where it gets none
+        self.messages = 0
         # whether the rows that are copied first are to lie beside it
         self.has_base = False
         # the OID and the name of the database; None where they weren't noted yet
@@ -95,9 +97,10 @@ class Baseline:
 
     def begin(self, catalog: Catalog, copied: int | None = None) -> None:
         """Remembers what a server has alone. `copied`: as of which LSN the store has all rows."""
-        made, feed, has_base = self.made, self.feed, self.has_base
+        made, fed = self.made, (self.feed, self.messages, self.has_base)
         self.forget()
-        self.catalog, self.made, self.feed, self.has_base = catalog, made, feed, has_base
+        self.catalog, self.made = catalog, made
+        self.feed, self.messages, self.has_base = fed
         for oid, table in catalog.tables.items():
             if copied is not None:
                 self.sent[oid] = Sent(copied, table.shape)
@@ -224,7 +227,8 @@ class Baseline:
 
     def restore(self, kept: Kept) -> None:
         """Takes what a file has kept of it."""
-        self.made, self.feed, self.has_base = kept.made, kept.feed, kept.base
+        self.made, self.feed, self.messages = kept.made, kept.feed, kept.messages
+        self.has_base = kept.base
         self.database, self.catalog = kept.database, kept.catalog
         self.sent, self.left, self.outstanding = kept.sent, kept.left, kept.outstanding
         self.names.restore(kept.names)
@@ -232,7 +236,8 @@ class Baseline:
 
     def kept(self) -> Kept:
         """What a file is to have of it."""
-        begun = FORMAT, self.made, self.feed, self.has_base, self.database, self.catalog
+        fed = self.feed, self.messages, self.has_base
+        begun = FORMAT, self.made, *fed, self.database, self.catalog
         found = dict(self.found), self.found.mended, self.found.told
         return Kept(*begun, self.sent, self.names.rows(), *found, self.outstanding, self.left)
 

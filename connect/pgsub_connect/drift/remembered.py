@@ -29,11 +29,12 @@ class Remembered(Baseline):
         with contextlib.suppress(FileNotFoundError):
             self.read()
 
-    def note_feed(self, folder: str, has_base: bool = False) -> None:
+    def note_feed(self, folder: str, has_base: bool = False, messages: int = 0) -> None:
         """Notes durably which folder has the store's feed, "" where it has none any more.
-        `has_base`: the rows that are being copied are to lie beside it."""
-        if (folder, has_base) != (self.feed, self.has_base):
-            self.feed, self.has_base = folder, has_base
+        `has_base`: the rows that are being copied are to lie beside it; `messages`: how many bytes
+        of them it gets of a transaction at most."""
+        if (folder, has_base, messages) != (self.feed, self.has_base, self.messages):
+            self.feed, self.has_base, self.messages = folder, has_base, messages
             self.save()
 
     def keep_made(self, made: dict[str, int]) -> None:
@@ -98,7 +99,8 @@ class Remembered(Baseline):
             if said["format"] != FORMAT:
                 text = f"of another version of this program (format {said['format']})"
                 raise FileError(f"{self.path}: {text}")
-            self.restore(KEPT.read(said))
+            # (an earlier version asked for no messages)
+            self.restore(KEPT.read({"messages": 0, **said}))
             self.follow(more)
         except FileNotFoundError:
             raise

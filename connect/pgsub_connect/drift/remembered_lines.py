@@ -9,6 +9,7 @@ Its first line is an object of JSON.
 | `made` | the publications that were made for this store, with their OIDs |
 | `database` | the OID of the database that is followed, and its name at the last session |
 | `feed` | the folder of the feed that has all commits of the store up to its position, "" where none has |
+| `messages` | how many bytes of logical messages the feed gets of a transaction at most, 0 where it gets none |
 | `base` | while rows are copied first: whether they are to lie beside the feed |
 | `catalog` | what the server had when it was looked at last, as the module `server.catalog` says, changed by what Relation messages said since; null as long as nothing was copied |
 | `sent` | by OID: the last Relation message of a change, and the LSN of its commit |
@@ -176,6 +177,7 @@ class Kept:
     format: int
     made: dict[str, Oid]
     feed: str
+    messages: int
     base: bool
     database: tuple[Oid, str] | None
     catalog: Catalog | None

@@ -38,7 +38,7 @@ from ..store.checkpoint_lines import COPIED, FOLLOWING, INTERRUPTED
 from ..store.file import position_in
 from ..stream.common import Common
 from ..stream.filter import Filter
-from ..stream.filter_end import FilterEnded
+from ..stream.filter_end import TOO_LONG, FilterEnded
 from ..stream.statuses import Reached
 from .feed_keeper import Keeper, TypesBeside, TypesFile
 from .first_rows import BaseRows, FirstRows
@@ -63,7 +63,8 @@ def has_segments(folder: str) -> bool:
 class FeedSettings:
     """Where the feed of a store is and how it is kept, and the tables and sinks that follow it.
     `is_left`: the store goes on without the feed that it has had; `has_base`: the feed gets the rows
-    of the initial copy, too."""
+    of the initial copy, too; `messages`: of how many bytes those of a transaction may be, 0 where
+    none are told."""
 
     store: str
     folder: str = ""
@@ -75,6 +76,7 @@ class FeedSettings:
     tables: TablesSettings | None = None
     sinks: tuple[SinkSettings, ...] = ()
     has_base: bool = False
+    messages: int = 0
 
 
 class Feeding:
@@ -163,7 +165,7 @@ class Feeding:
         tables = self.settings.tables
         self.check_left(has_segments(self.folder))
         self.checkpoint.note_tables(os.path.abspath(tables.path) if tables else "")
-        self.remembered.note_feed(self.folder, self.settings.has_base)
+        self.remembered.note_feed(self.folder, self.settings.has_base, self.settings.messages)
 
     def begin(
         self, child: Filter, reached: Callable[[], Reached], check: Check, wake: Callable[[], None]
@@ -189,7 +191,7 @@ class Feeding:
         if self.base and not has_segments(self.folder):
             # (readers find them once there is a segment)
             self.base.complete(self.checkpoint.known.phase == COPIED, check)
-        self.remembered.note_feed(self.folder)
+        self.remembered.note_feed(self.folder, messages=self.settings.messages)
         self.types.begin()
         child.add_words(self.words(check))
         how = self.settings.limits, self.settings.mode, self.progress, reached
@@ -234,6 +236,8 @@ class Feeding:
             words += ["--feed-segment-bytes", str(size)]
         if seconds := self.settings.segment_seconds:
             words += ["--feed-segment-seconds", str(seconds)]
+        if most := self.settings.messages:
+            words += ["--messages", str(most)]
         return words
 
     def source(self, check: Check) -> tuple[str, str, str]:
@@ -285,7 +289,11 @@ class Feeding:
             raise Unread(f"{names} follows no more, as told above", ended[0].lasting)
 
     def text_of(self, said: str) -> str:
-        """What to do where the filter says that the feed doesn't fit; "" of other words."""
+        """What to do where the filter says that the feed doesn't fit, or that messages don't; "" of
+        other words."""
+        if said == TOO_LONG:
+            most = self.settings.messages
+            return f"a transaction has more than {most} bytes of messages: give --messages more"
         if not self.folder or said != NOT_A_FEED:
             return ""
         try:

@@ -3,7 +3,7 @@
 import time
 
 from pgsub_feed import log
-from pgsub_feed.errors import FileError, Passing, Stopped, Unfit
+from pgsub_feed.errors import FileError, Passing, Stopped, Unfit, UsageError
 
 from ..add.adder import Adder
 from ..errors import LOGIN, Renewed, ServerError, Unconnected
@@ -55,7 +55,7 @@ class Follower:
         self.watch = watch = Watch(common, settings.on_alter, store)
         self.misses = Misses(common)
         self.confirming = confirming = Confirming(child, self.noting, self.misses)
-        form = StreamForm(settings.proto, Skipping(settings.skip, common))
+        form = StreamForm(settings.proto, Skipping(settings.skip, common), settings.messages)
         self.life = FilterLife(limits, confirming, watch, form, self.ending, feeding)
         schedule = Schedule(settings, confirming, snapshots.hold)
         self.standing = Standing(child, progress)
@@ -74,7 +74,7 @@ class Follower:
         """Follows until a signal asks for the end. Raises where going on makes no sense."""
         try:
             self.follow()
-        except (FileError, Passing, ServerError, Unfit):
+        except (FileError, Passing, ServerError, Unfit, UsageError):
             self.life.leave()
             raise
         finally:

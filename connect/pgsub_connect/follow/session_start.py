@@ -120,7 +120,7 @@ class SessionStart:
             self.subscription.slot,
             self.subscription.publications,
             self.form.proto,
-            ["streaming"] if self.form.is_streaming() else [],
+            self.form.asks_for(),
             at,
         )
 

@@ -7,6 +7,7 @@ from pgsub_feed import log
 from pgsub_feed.program import Worker
 from pgsub_feed.texts import identifier, lsn_text, replication_literal
 
+from ..preconditions import require_messages
 from ..server.session import ABORTS_IN_VERSION_1, STREAMS, tell_version_1
 from ..status.progress import Progress
 from ..stream.memory_limit import BufferLimits
@@ -18,7 +19,7 @@ class FollowSettings:
     """How a store is followed. `silence`: for how many seconds the server may say nothing; `skip`:
     the final LSN of the commit whose changes are passed over, or 0; `until`: where to end, `now` for
     the end of the server's log; `on_alter`: of how many bytes a table may be that is copied anew
-    where it was altered, None where none is."""
+    where it was altered, None where none is; `messages`: whether logical messages are asked for."""
 
     store: str
     proto: int = 2
@@ -29,6 +30,7 @@ class FollowSettings:
     no_copy: bool = False
     limits: BufferLimits = BufferLimits()
     on_alter: int | None = None
+    messages: bool = False
 
 
 class Ending(Worker):
@@ -53,10 +55,13 @@ class Ending(Worker):
 
 
 class StreamForm:
-    """The version of the protocol, and whether large transactions come while they run."""
+    """The version of the protocol, whether large transactions come while they run, and whether
+    logical messages come: then transactions are whole, since in a block the server doesn't tell
+    which subtransaction wrote a message, so one that is rolled back couldn't be left out."""
 
-    def __init__(self, proto: int, skipping: Skipping) -> None:
-        self.proto, self.streams, self.skipping = proto, proto >= 2, skipping
+    def __init__(self, proto: int, skipping: Skipping, messages: bool = False) -> None:
+        self.proto, self.streams, self.skipping = proto, proto >= 2 and not messages, skipping
+        self.messages = messages
         # whether whole transactions are asked for, to add tables or to repair rows
         self.is_whole = False
 
@@ -82,6 +87,8 @@ class StreamForm:
         stream none. In version 2 that message is legal and has no effect, so version 1 of them is
         version 2 without streaming.
         """
+        if self.messages:
+            require_messages(version)
         if version < STREAMS and self.proto == 2:
             tell_version_1()
             self.proto, self.streams = 1, False
@@ -89,11 +96,17 @@ class StreamForm:
             self.proto = 2
         return self.proto
 
+    def asks_for(self) -> list[str]:
+        """What it asks for besides, as a recording has it."""
+        return ["streaming"] * self.is_streaming() + ["messages"] * self.messages
+
     def command(self, slot: str, publications: Sequence[str], at: int) -> str:
         names = ", ".join(identifier(name) for name in publications)
         words = [f"proto_version '{self.proto}'", f"publication_names {replication_literal(names)}"]
         if self.is_streaming():
             words.append("streaming 'on'")
+        if self.messages:
+            words.append("messages 'true'")
         return (
             f"START_REPLICATION SLOT {identifier(slot)} LOGICAL {lsn_text(at)} ({', '.join(words)})"
         )

@@ -5,7 +5,8 @@ What it has of a commit is of what was passed on. So it is of use as long as tha
 publications that are followed, as the checkpoint says: `repeats` is an LSN, and all that is noted
 of commits that end above it is of whole ones. Sessions ask for nothing below it. It is 0 where
 changes are left out, as of a table whose rows are added, or where the server has another history:
-a filter that begins then notes anew.
+a filter that begins then notes anew. So it does where logical messages are asked for, or no more:
+a commit that has nothing else comes only then.
 """
 
 import os
@@ -21,17 +22,23 @@ SUFFIX = ".repeats"
 
 
 class RepeatsFile:
-    """It. `publications`: the names of those that are followed."""
+    """It. `publications`: the names of those that are followed; `messages`: whether logical messages
+    are asked for."""
 
     def __init__(
-        self, store: str, checkpoint: Checkpoint, publications: Callable[[], Iterable[str]]
+        self,
+        store: str,
+        checkpoint: Checkpoint,
+        publications: Callable[[], Iterable[str]],
+        messages: bool = False,
     ) -> None:
         self.path = os.path.abspath(store + SUFFIX)
-        self.checkpoint, self.publications = checkpoint, publications
+        self.checkpoint, self.publications, self.messages = checkpoint, publications, messages
 
     def checksum(self) -> int:
-        """That of the names of the publications."""
-        return zlib.crc32("\0".join(sorted(self.publications())).encode())
+        """That of what is asked for: the names of the publications, and messages."""
+        names = [*sorted(self.publications()), *([""] if self.messages else [])]
+        return zlib.crc32("\0".join(names).encode())
 
     def since(self) -> int:
         """The LSN from which on commits can be compared; 0 where none can be."""

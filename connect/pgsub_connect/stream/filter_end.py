@@ -25,6 +25,11 @@ MISSING = re.compile(
 )
 
 
+# What it says, before its last line, of a transaction whose messages can't be told.
+TOO_LONG, STREAMED = "pgsub: feed 4 MessagesTooLong", "pgsub: feed 5 StreamedMessage"
+OF_MESSAGES = (TOO_LONG, STREAMED)
+
+
 class FilterEnded(Failure):
     """The filter ended: with a status above 0 by a fault, below 0 by a signal. `room`: that a disk
     has little, where that may be why."""
@@ -42,6 +47,8 @@ class FilterEnded(Failure):
 
     def is_rejection(self) -> bool:
         """Whether the same would come of another try; a full disk or memory may pass."""
+        if self.said in OF_MESSAGES:
+            return True
         return self.status > 0 and self.status not in (*PASSING, MISSED)
 
     def exit_status(self) -> int:
@@ -64,12 +71,14 @@ class FilterEnded(Failure):
 
     def is_of_stream(self) -> bool:
         """Whether what was rejected is something that came, and not the words or the store."""
-        return self.status in (REJECTED, SPOOL_FULL, FRAME_TOO_LARGE)
+        is_rejected = self.status in (REJECTED, SPOOL_FULL, FRAME_TOO_LARGE)
+        return is_rejected or self.said in OF_MESSAGES
 
     def is_of_commit(self) -> bool:
         """Whether what was rejected is a commit, and not a single message."""
         starts = "pgsub: store ", "pgsub: relation "
-        return self.status == REJECTED and self.said.startswith(starts)
+        is_rejected = self.status == REJECTED and self.said.startswith(starts)
+        return is_rejected or self.said in OF_MESSAGES
 
     def is_full(self) -> bool:
         """Whether too much of open transactions was buffered."""

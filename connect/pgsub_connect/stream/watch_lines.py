@@ -12,7 +12,7 @@ from pgsub_feed import log
 from pgsub_feed.texts import parse_lsn
 
 from ..drift.findings import REPEAT, RULE, UNWATCHED
-from .filter_end import BREACH, Missing, missing_of
+from .filter_end import BREACH, OF_MESSAGES, REFUSED, Missing, missing_of
 from .filter_input import PIECE
 
 # How each of its lines begins.
@@ -100,7 +100,8 @@ class FilterSaid:
 
     def __init__(self, file: IO[bytes] | None = None) -> None:
         self.speaks, self.number = file is not None, file.fileno() if file else -1
-        self.line, self.said = b"", ""
+        # the last line, and the one before it
+        self.line, self.said, self.before = b"", "", ""
         # what it has said of changes that found no row since it began
         self.missing = Missing()
         # what it has said of the server since the caller looked last, and the last of that
@@ -144,7 +145,7 @@ class FilterSaid:
         elif (noted := counted_in(line)) is not None:
             self.noted = max(noted, self.noted)
         else:
-            self.said = line
+            self.before, self.said = self.said, line
 
     def take_news(self) -> list[Told]:
         """What it has said of the server since the last call."""
@@ -153,4 +154,6 @@ class FilterSaid:
 
     def reason(self, status: int) -> str:
         """What it has said of why it ended with a status."""
+        if status == REFUSED and self.before in OF_MESSAGES:
+            return self.before
         return self.told if status == BREACH and self.told else self.said

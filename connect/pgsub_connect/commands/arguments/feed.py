@@ -25,7 +25,10 @@ OF_FEED = "segment_bytes", "segment_seconds", "max_bytes", "max_age", "base"
 NEEDS = {
     **dict.fromkeys(("init", "digests", "indexes"), "tables"),
     **dict.fromkeys((f"feed_{it}" for it in OF_FEED), "feed"),
+    "messages": "feed",
 }
+# Of how many bytes the messages of a transaction may be where it isn't said.
+MOST_OF_MESSAGES = 64 << 20
 FEED_BASE = "keep the rows of the initial copy as files of the feed, too, yes or no (default: yes where --feed is named)"
 
 
@@ -58,6 +61,14 @@ class FeedOptions:
         type=duration,
     )
     feed_base: str = option(FEED_BASE, "", choices=["yes", "no"], value="WHETHER")
+    messages: int = option(
+        "tell in the feed what transactions write by pg_logical_emit_message (PostgreSQL 14), of each at most SIZE (default: 64MB, and as the store has had it); large transactions come whole then",
+        0,
+        nargs="?",
+        const=MOST_OF_MESSAGES,
+        type=size,
+    )
+    without_messages: bool = flag("tell them no more")
     tables: str = file(
         "keep ordinary tables in this file of SQLite, by `pgsub-connect tables` beside the follower (default: those that the store has had); the feed is STORE.feed by default",
         "",
@@ -83,7 +94,8 @@ class FeedOptions:
         limits = Limits(self.feed_max_bytes or None, self.feed_max_age)
         sizes = self.feed_segment_bytes, self.feed_segment_seconds
         has_base, whose = self.feed_base == "yes", (store, self.feed, self.without_feed, mode)
-        return FeedSettings(*whose, sizes[0], sizes[1], limits, tables, tuple(sinks), has_base)
+        told = tuple(sinks), has_base, self.messages
+        return FeedSettings(*whose, sizes[0], sizes[1], limits, tables, *told)
 
 
 Settled = TypeVar("Settled", bound=FeedOptions)
@@ -98,16 +110,17 @@ def settled_feed(options: Settled, store: str) -> Settled:
     if was and os.path.lexists(was) and os.path.realpath(was) != os.path.realpath(tables):
         text = f"the tables of {store} are in {was}: leave --tables out. To have them in {tables}, move or remove that file, or say --without-tables once"
         raise Unfit(text)
-    is_base_wanted = bool(feed)
-    if not feed and not options.without_feed and has_begun(store):
+    is_base_wanted, messages = bool(feed), options.messages
+    if not options.without_feed and has_begun(store):
         known = Remembered(store)
-        feed, is_base_wanted = known.feed, known.has_base
+        if not feed:
+            feed, is_base_wanted = known.feed, known.has_base
+        messages = messages or (0 if options.without_messages else known.messages)
     has_base = options.feed_base or ("yes" if is_base_wanted else "")
     feed = feed or (store + ".feed" if tables or options.sink else "")
     numeric = options.numeric or tables and read_numeric(tables) or BOTH
-    options = dataclasses.replace(
-        options, tables=tables, feed=feed, numeric=numeric, feed_base=has_base
-    )
+    more = {"numeric": numeric, "feed_base": has_base, "messages": messages}
+    options = dataclasses.replace(options, tables=tables, feed=feed, **more)
     for given, needed in NEEDS.items():
         if getattr(options, given) and not getattr(options, needed):
             raise UsageError(f"--{given.replace('_', '-')} needs --{needed}")
