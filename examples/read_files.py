@@ -20,7 +20,7 @@ def count(oid, cells, by, is_repair):
     rows[oid] |= {key: (row, copies)} if copies else {}
 
 def keep(lsn, lines, is_repair=False):
-    for it in map(json.loads, lines):
+    for it in (it for it in map(json.loads, lines) if isinstance(it, list) or it["op"] != "m"):
         it = {"op": "r", "after": it} if isinstance(it, list) else it  # a first row
         table = json.loads(read(it["at"])) if "at" in it else table if it["op"] == "r" else it
         if table != tables.get(oid := table["oid"]):  # columns keep values by name

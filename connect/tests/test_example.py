@@ -10,7 +10,7 @@ import sys
 import time
 from typing import Any
 
-from feed_text import About, Column, Line
+from feed_text import About, Column, Line, Message
 
 from .bases import make_base
 from .feeds import ID, NAME, STOCK, FeedCase, delete, insert, table, truncate, update
@@ -129,7 +129,8 @@ class Killed(ExampleCase):
         make_base(self.path, P, [STOCK, OTHER], held, room=1000, least=10000)
         kills, child = 0, self.start()
         for number in range(2, 302):
-            self.feed.commit(number << 8, list(random_lines(rng, rows)))
+            messages = [Message(number << 8, "p", b"x")] * (number % 3)
+            self.feed.commit(number << 8, list(random_lines(rng, rows)), messages=messages)
             if number % 20 == 0:
                 time.sleep(rng.random() * 0.3)
                 child.kill()

@@ -7,8 +7,19 @@ import unittest
 from pathlib import Path
 
 from feed_folder import Asked, Folder, NotOpened, differences, findings
-from feed_replay import replay
-from feed_text import About, Column, Definition, Line, closing_line, entry_text, segment_head
+from feed_replay import Wrong, replay
+from feed_text import (
+    About,
+    Column,
+    Definition,
+    Line,
+    Message,
+    closing_line,
+    commit_line,
+    entry_text,
+    message_line,
+    segment_head,
+)
 
 STOCK = Definition(
     16384, "public", "stock", "d", (Column("sku", 25, -1, True), Column("quantity", 23))
@@ -66,6 +77,29 @@ class Case(unittest.TestCase):
                 Path(room, name).write_bytes(text)
             state = replay(Path(room))
         self.assertEqual((state.at, state.missed, +state.rows[16384]), (0x330, 1, {("A", "4"): 1}))
+
+    def test_messages_are_replayed(self) -> None:
+        """A segment has them where it has their commit, also where it ends before that."""
+        messages = [Message(0xF0, "p", b"x"), Message(0xF8, "", b"\0\xff")]
+        self.folder.open(0, Asked("7", "shop", "pgsub", segment_bytes=1))
+        self.folder.commit(*FIRST, messages)
+        self.folder.commit(*THIRD[:1], [], THIRD[2], messages[:1])
+        with tempfile.TemporaryDirectory() as room:
+            for name, text in self.folder.files().items():
+                Path(room, name).write_bytes(text)
+            state = replay(Path(room))
+        self.assertEqual((state.at, state.changes, len(self.folder.segments)), (0x330, 2, 2))
+        first, last = (0x130, 0x100, 739), (0x330, 0x300, 742)
+        told = [(*first, 0xF0, "p", b"x"), (*first, 0xF8, "", b"\0\xff"), (*last, 0xF0, "p", b"x")]
+        self.assertEqual([tuple(it) for it in state.messages], told)
+
+    def test_a_message_behind_a_definition_isnt_replayed(self) -> None:
+        body = entry_text(0, *FIRST)[256:] + message_line(Message(0xF0, "p", b"x"))
+        text = commit_line(0x130, 0, body, 2, FIRST[2]) + body
+        with tempfile.TemporaryDirectory() as room:
+            Path(room, "0" * 16).write_bytes(HEAD + text)
+            with self.assertRaisesRegex(Wrong, "a message behind a definition"):
+                replay(Path(room))
 
     def test_a_segment_for_each_commit(self) -> None:
         self.run_once(0, *COMMITS, segment_bytes=0)

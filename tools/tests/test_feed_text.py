@@ -6,7 +6,17 @@ import tempfile
 import unittest
 from pathlib import Path
 
-from feed_text import UNSENT, About, Column, Definition, Line, Writer, entry_text, segment_head
+from feed_text import (
+    UNSENT,
+    About,
+    Column,
+    Definition,
+    Line,
+    Message,
+    Writer,
+    entry_text,
+    segment_head,
+)
 
 STOCK = Definition(
     16384, "public", "stock", "d", (Column("sku", 25, -1, True), Column("quantity", 23))
@@ -127,6 +137,28 @@ class Texts(unittest.TestCase):
             '{"op":"x","at":1280,"n":2,"sent":"d","old":["K",["A",null]],"new":null}',
             NOTES_TEXT,
             '{"op":"x","at":1644,"n":3,"sent":"d","old":["O",["a",{"hex":"10"}]],"new":null}',
+        )
+
+    def test_messages(self) -> None:
+        """They come first, and the definition moves."""
+        messages = [
+            Message(622870700, "outbox", b'{"id":1}\n'),
+            Message(622870720, "", b"\0\xff"),
+            Message(622870740, "p", b"A\0"),
+            Message(622870760, "é", b""),
+        ]
+        text = entry_text(622874000, 622875000, [Line(NOTES, "t")], ABOUT, messages=messages)
+        self.assertEqual(
+            text.decode().splitlines(),
+            [
+                commit("0/25205178", "0/25204D90", 454, 1, 1989054086),
+                '{"op":"m","lsn":"0/252040AC","prefix":"outbox","content":"{\\"id\\":1}\\n"}',
+                '{"op":"m","lsn":"0/252040C0","prefix":"","content":{"hex":"00ff"}}',
+                '{"op":"m","lsn":"0/252040D4","prefix":"p","content":{"hex":"4100"}}',
+                '{"op":"m","lsn":"0/252040E8","prefix":"é","content":""}',
+                NOTES_TEXT,
+                '{"op":"t","at":1545,"n":0,"before":null,"after":null}',
+            ],
         )
 
     def test_commits_without_changes(self) -> None:
