@@ -28,6 +28,7 @@ from . import (
     kafka,
     keys,
     kinds,
+    messages,
     missing,
     names,
     operating,
@@ -87,6 +88,7 @@ THEMES: dict[str, Sequence[Case]] = {
         *indexes.CASES,
         *answering.CASES,
         *resting.CASES,
+        *messages.CASES,
     ),
     "sinks": (
         *sinking.CASES,
