@@ -36,13 +36,15 @@ class NotOpened(Exception):
 @dataclass(frozen=True)
 class Asked:
     """What a run is asked to keep: what the feed is of, how many bytes a segment may have, and how
-    many seconds it is open, 0 for any number."""
+    many seconds it is open, 0 for any number; and how many bytes of messages a transaction may have,
+    0 where none are told."""
 
     system: str = ""
     database: str = ""
     slot: str = ""
     segment_bytes: int = SEGMENT_BYTES
     segment_seconds: int = 0
+    messages: int = 0
 
     def head(self, base: int) -> bytes:
         return segment_head(base, self.system, self.database, self.slot)
@@ -135,6 +137,7 @@ class Folder:
         about: About | None = None,
         messages: Sequence[Message] = (),
     ) -> None:
+        messages = messages if self.asked.messages else ()
         told = self.last().told.copy()
         text = self.last().entry(self.at, end, lines, about, told, messages)
         if self.is_full(len(text)) or self.is_late(about):

@@ -204,6 +204,8 @@ class Feeding(Reader):
     def __init__(self, version, writer=None):
         super().__init__(version)
         self.writer, self.about, self.lines = writer, None, []
+        # the messages of the transaction that is under way, where it isn't streamed
+        self.heard = []
 
     def restarted(self):
         new = super().restarted()
@@ -215,7 +217,16 @@ class Feeding(Reader):
             self.about = feed_text.About(
                 fields[1], self.top if letter == b"C" else fields[0], fields[3]
             )
+        if letter == b"B":
+            self.heard = []
+        if letter == b"M" and fields[0] is None:
+            self.hear(*fields[1:])
         super().step(letter, fields, length)
+
+    def hear(self, flags, lsn, prefix, content):
+        """A message that isn't in a block. One outside of a transaction goes with the next Begin."""
+        if flags:
+            self.heard.append(feed_text.Message(lsn, prefix.decode(), bytes(content)))
 
     def commit(self, xid, end):
         before, self.lines = self.position, []
@@ -224,7 +235,7 @@ class Feeding(Reader):
             self.tell(end)
 
     def tell(self, end):
-        self.writer.commit(end, self.lines, self.about)
+        self.writer.commit(end, self.lines, self.about, self.heard)
 
     def apply(self, tables, it):
         lines = lines_of(tables, it)

@@ -83,7 +83,8 @@ def asked_of(rng):
     """What some runs are asked to keep."""
     size = rng.choice(SIZES)
     age = rng.choice(AGES) if rng.random() < (0.7 if size >= SEGMENT_BYTES else 0.2) else 0
-    asked = Asked(*(rng.choice(TEXTS) for _ in range(3)), size, age)
+    messages = rng.choice((0, 1 << 20))
+    asked = Asked(*(rng.choice(TEXTS) for _ in range(3)), size, age, messages)
     if rng.random() < 0.96:
         return asked
     # the head of a segment may be full, or have a byte too many
@@ -98,7 +99,7 @@ def feed_words(rng, feed, asked):
         value = getattr(asked, name)
         if value != getattr(others, name) or rng.random() < 0.2:
             words.append(f"--feed-{name.replace('_', '-')}={value}")
-    return words
+    return words + ([f"--messages={asked.messages}"] if asked.messages else [])
 
 
 class Runs:
@@ -126,6 +127,9 @@ class Runs:
     def run(self, sessions, way, keeps=True):
         """One run: sessions come in a recording, one comes as raw bytes or is followed."""
         self.number += 1
+        if self.version == 2:
+            # (a message in a block ends the run)
+            self.asked = replace(self.asked, messages=0)
         read = self.read = self.read.restarted()
         folder, why = read.writer, None
         try:

@@ -331,6 +331,9 @@ class Planted:
             asked = {
                 name[1:].replace("-", "_"): value for name, value in {**told, **numbers}.items()
             }
+            for it in words:
+                if it.startswith("--messages="):
+                    asked["messages"] = int(it.partition("=")[2])
             folder, wanted = self.feeds.get(path) or reader.folder(), feed_folder.Asked(**asked)
             if not wanted.is_too_long():
                 self.beside.get(path, {}).pop(NEW_NAME, None)

@@ -143,6 +143,25 @@ class TellsAfterTwice(Feeding):
             self.lines[-1] = replace(self.lines[-1], before=self.lines[-1].after)
 
 
+class LosesMessage(Feeding):
+    """the last message of a transaction isn't told"""
+
+    layer = "lines of messages"
+
+    def tell(self, end):
+        self.heard = self.heard[:-1]
+        super().tell(end)
+
+
+class TellsOutside(Feeding):
+    """a message of no transaction is told with the one in which it came"""
+
+    layer = "lines of messages"
+
+    def hear(self, flags, lsn, prefix, content):
+        super().hear(1, lsn, prefix, content)
+
+
 class TellsFirstDefinition(Feeding):
     """a definition that changes amid a commit is told once"""
 
@@ -243,6 +262,8 @@ PLANTED_FEEDS = (
     TellsOldAsSent,
     TellsNewAsSent,
     TellsAfterTwice,
+    LosesMessage,
+    TellsOutside,
     TellsFirstDefinition,
     KeepsSegments,
     KeepsRest,

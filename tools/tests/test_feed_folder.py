@@ -79,9 +79,13 @@ class Case(unittest.TestCase):
         self.assertEqual((state.at, state.missed, +state.rows[16384]), (0x330, 1, {("A", "4"): 1}))
 
     def test_messages_are_replayed(self) -> None:
-        """A segment has them where it has their commit, also where it ends before that."""
+        """A segment has them where it has their commit; none where that isn't asked for."""
         messages = [Message(0xF0, "p", b"x"), Message(0xF8, "", b"\0\xff")]
-        self.folder.open(0, Asked("7", "shop", "pgsub", segment_bytes=1))
+        self.folder.open(0, Asked("7", "shop", "pgsub"))
+        self.folder.commit(*FIRST, messages)
+        self.check(one(0, ALONE[0]))
+        self.setUp()
+        self.folder.open(0, Asked("7", "shop", "pgsub", segment_bytes=1, messages=1))
         self.folder.commit(*FIRST, messages)
         self.folder.commit(*THIRD[:1], [], THIRD[2], messages[:1])
         with tempfile.TemporaryDirectory() as room:
