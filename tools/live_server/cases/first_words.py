@@ -7,20 +7,24 @@ import contextlib
 import os
 import pty
 import re
+import statistics
 import subprocess
+import sys
 import time
+from pathlib import Path
 
 from ..engines import free_port
 from ..errors import Failed
 from ..follower import wait_until
-from ..place import PASSING, SERVER, USAGE, Place
+from ..place import OK, PASSING, SERVER, USAGE, Place
 from .case import Case
 from .common import rows_file
-from .first_hour import ROWS, asked, command, demand, follow, with_tables
+from .first_hour import ROWS, asked, call, command, demand, follow, with_tables
 
-# How much longer than to say its version a wait may take for what is long there, in seconds, and
-# how often both are tried.
-QUICK, TRIES = 0.5, 5
+# How many times as long as an interpreter's start a wait may take for what is long there, and how
+# often both are tried. (The start takes 8 ms on a machine at rest. One that reads all of a connector
+# takes 30 times as long.)
+MOST, TRIES = 18, 9
 
 
 def helps(place: Place) -> None:
@@ -74,23 +78,26 @@ def roles(place: Place) -> None:
 
 
 def waits(place: Place) -> None:
-    """A wait for what is long in the tables takes no second."""
+    """A wait for what is long in the tables is over soon enough for a request."""
     place.stock()
     child = with_tables(place)
-    waiting = min(seconds(place, "wait", "0/1", "--tables", str(rows_file(place))))
-    starting = min(seconds(place, "--version"))
-    demand(waiting - starting < QUICK, f"it took {waiting:.2f} s, and to start {starting:.2f}")
+    words: list[str | Path] = [place.options.connect, "wait", "0/1", "--tables", rows_file(place)]
+    # (one beside the other, so that a busy machine slows both down)
+    took = [
+        (seconds(place, sys.executable, "-c", ""), seconds(place, *words)) for _ in range(TRIES)
+    ]
+    start, wait = (statistics.median(it) for it in zip(*took))
+    times = statistics.median(waiting / starting for starting, waiting in took)
+    demand(times < MOST, f"it took {wait:.3f} s, {times:.0f} times an interpreter's {start:.3f}")
     child.stop()
 
 
-def seconds(place: Place, *words: str) -> list[float]:
-    """How long a command takes, each time."""
-    took = []
-    for _ in range(TRIES):
-        began = time.monotonic()
-        status, said = command(place, *words)
-        took.append(time.monotonic() - began)
-        demand(status == 0, f"{words}: status {status}: {said}")
+def seconds(place: Place, *words: str | Path) -> float:
+    """How long a command takes that ends well."""
+    began = time.monotonic()
+    status, said = call(place, *words)
+    took = time.monotonic() - began
+    demand(status == OK, f"{words}: status {status}: {said}")
     return took
 
 
