@@ -7,11 +7,8 @@ subtransactions. After each step the copy has to hold the server's rows.
 from __future__ import annotations
 
 import dataclasses
-import hashlib
-import json
 import random
 import re
-import subprocess
 import time
 from collections.abc import Callable, Iterable
 from concurrent.futures import Future, ThreadPoolExecutor
@@ -19,13 +16,14 @@ from concurrent.futures import Future, ThreadPoolExecutor
 from .cases import adding
 from .cases.common import rows_file, verify_words
 from .cluster import Cluster
+from .digests import Digest, Digests, compare, digests_of, digests_of_store
 from .errors import Failed
 from .feeds import columns_of, reading
 from .follower import OF_RULES, Supervisor, is_adding, wait_until
 from .options import Options
 from .peaks import Group, Peaks
 from .place import OK, PASSING, Place
-from .rows import Row, quoted
+from .rows import quoted
 
 # What is done at full size.
 ROWS, SUBTRANSACTIONS, WIDE = 10_000_000, 1_000_000, 1_000_000_000
@@ -85,53 +83,7 @@ class Form:
     memory: int = 0
 
 
-@dataclasses.dataclass
-class Digest:
-    """How many rows there are, and the sum of their digests, which doesn't depend on their order.
-    (A server finds them by itself: no value has one of these two characters.)"""
-
-    rows: int = 0
-    total: int = 0
-
-    def add(self, row: Row, copies: int = 1) -> None:
-        line = "|".join("~" if it is None else it for it in row)
-        self.rows += copies
-        self.total += copies * int(hashlib.md5(line.encode()).hexdigest()[:15], 16)
-
-
-Digests = dict[str, Digest]
-
-
 TABLES = ("large", "nested", "beside", "wide", "mark")
-
-
-def digests_of(server: Cluster) -> Digests:
-    """Those of a server's tables."""
-    found = {}
-    with server.connect() as session:
-        for table in TABLES:
-            columns = columns_of(session, table)
-            cells = ", ".join(f"coalesce({quoted(name)}::text, '~')" for name, _ in columns)
-            digest = f"('x' || left(md5(concat_ws('|', {cells})), 15))::bit(60)::bigint"
-            query = f"SELECT count(*), coalesce(sum({digest}), 0) FROM {table}"
-            (values,) = session.rows(query)
-            found[table] = Digest(*(int(it or 0) for it in values))
-    return found
-
-
-def digests_of_store(place: Place) -> Digests:
-    """Those of the rows that the program dumps, line by line."""
-    found: Digests = {}
-    words = [str(place.options.program), "dump", "--store", str(place.store)]
-    with subprocess.Popen(words, stdout=subprocess.PIPE) as dump:
-        assert dump.stdout
-        for line in dump.stdout:
-            if line.startswith(b"["):
-                _, table, values, copies = json.loads(line)
-                found.setdefault(table, Digest()).add(tuple(values), copies)
-    if dump.returncode:
-        raise Failed(f"dump: status {dump.returncode}")
-    return found
 
 
 def digests_of_tables(place: Place) -> Digests:
@@ -144,17 +96,6 @@ def digests_of_tables(place: Place) -> Digests:
             for row in base.execute(f"SELECT {names} FROM {table}"):
                 found[table].add(tuple(None if it is None else str(it) for it in row))
     return found
-
-
-def compare(server: Digests, copy: Digests, what: str) -> int:
-    """Fails at the first table whose digests differ. Returns how many rows there are."""
-    for table, expected in server.items():
-        found = copy.get(table, Digest())
-        if found != expected:
-            raise Failed(
-                f"{what}: {table} has {found.rows} rows in place of {expected.rows}, and another digest"
-            )
-    return sum(it.rows for it in server.values())
 
 
 def server_of(options: Options, form: Form) -> Cluster:
@@ -408,8 +349,9 @@ class Large(Tables):
     def compare(self) -> str:
         """Ends the connector, and compares the digests of all rows. Returns how many there are."""
         self.supervisor.finish()
-        server = digests_of(self.place.cluster)
-        count = compare(server, digests_of_store(self.place), "the store")
+        server = digests_of(self.place.cluster, TABLES)
+        copy = digests_of_store(self.place.options.program, self.place.store)
+        count = compare(server, copy, "the store")
         if self.form.fed:
             compare(server, digests_of_tables(self.place), "the tables")
         spool = self.place.beside(".spool")

@@ -5,9 +5,10 @@ from __future__ import annotations
 import time
 
 from .cluster import Cluster
+from .digests import compare, digests_of
 from .follower import is_confirmed, wait_until
 from .place import Place
-from .sizes import SCHEMA, STEPS, Size, Tables, compare, digests_of
+from .sizes import SCHEMA, STEPS, TABLES, Size, Tables
 
 SLOT = "pgsub"
 
@@ -59,6 +60,6 @@ class Subscribed(Tables):
         server = self.place.cluster
         wait_until(lambda: is_confirmed(server, SLOT, end), f"confirming {end}", self.seconds())
         took = time.monotonic() - began
-        rows = compare(digests_of(server), digests_of(self.copy), "the subscriber")
+        rows = compare(digests_of(server, TABLES), digests_of(self.copy, TABLES), "the subscriber")
         self.is_equal = True
         return f"{took:.1f} s, {made:.1f} of them the server's; {rows} rows are equal"

@@ -9,9 +9,11 @@ import unittest
 from pathlib import Path
 
 try:
+    from live_server import installed
+    from live_server.cluster import Cluster
+    from live_server.digests import Digest, compare, digests_of
     from live_server.errors import Failed
     from live_server.peaks import Group, forget_peak, peak_of
-    from live_server.sizes import Digest, compare
 except ModuleNotFoundError:
     raise unittest.SkipTest("psycopg is needed") from None
 
@@ -87,3 +89,23 @@ class Digests(unittest.TestCase):
             with self.assertRaises(Failed):
                 compare({"t": found}, {"t": self.digest(*rows)}, "a copy")
         self.assertEqual(compare({"t": found, "u": Digest()}, {"t": found}, "a copy"), 2)
+
+    def test_those_of_a_server_are_of_what_it_sends(self) -> None:
+        folder = tempfile.TemporaryDirectory()
+        self.addCleanup(folder.cleanup)
+        # the server's account goes through it
+        Path(folder.name).chmod(0o711)
+        server = Cluster(installed.find(None, None, "postgres"), Path(folder.name))
+        self.addCleanup(server.remove)
+        server.start()
+        server.run(
+            "CREATE TABLE kinds (id int, filler char(5), flag bool, number float8, day date, word text)",
+            "INSERT INTO kinds VALUES (1, 'a', true, 0.1, '2026-11-30', ''), (2, NULL, false, 1e20, NULL, 'x')",
+            "CREATE TABLE none (id int)",
+            database="postgres",
+        )
+        found = digests_of(server, ("kinds", "none"), "postgres")
+        with server.connect("postgres") as session:
+            rows = list(session.copied("SELECT * FROM kinds"))
+        self.assertEqual(rows[0], ("1", "a    ", "t", "0.1", "2026-11-30", ""))
+        self.assertEqual(found, {"kinds": self.digest(*rows), "none": Digest()})
