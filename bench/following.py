@@ -21,11 +21,11 @@ from built import TOP, add_program, check_program
 from live_server import installed
 from live_server.child import Child
 from live_server.cluster import Cluster
+from live_server.digests import Digests, compare, digests_of, digests_of_store
 from live_server.errors import Failed, Unusable
 from live_server.follower import wait_until
 from live_server.options import Options
 from live_server.patience import Patience
-from live_server.rows import Rows, compare, rows_of_server, rows_of_store
 from live_server.sessions import Session
 
 SETTINGS = {
@@ -41,6 +41,8 @@ SETTINGS = {
     "autovacuum": "off",
 }
 PUBLICATION = "pgsub"
+# The version of PostgreSQL since which a large transaction is sent before its end.
+STREAMS = 14
 # how long is waited for what takes long, and how often the quick things are looked at, in seconds
 LIMIT, STEP = 300, 0.002
 
@@ -85,6 +87,10 @@ class Servers:
             database=name,
         )
 
+    def streams(self) -> bool:
+        """Whether large transactions are sent before their end, by version 2 of the protocol."""
+        return self.options.installed.version >= STREAMS
+
     def last_commit(self, statement: str) -> str:
         """Runs an INSERT, and returns an LSN that is before the end of its commit, and after those
         of all commits before it."""
@@ -119,7 +125,12 @@ class Servers:
 
     def compare(self, follower: Follower) -> int:
         """Fails where a follower's rows aren't those of the server. Returns how many there are."""
-        return compare(rows_of_server(self.publisher, PUBLICATION), follower.rows())
+        published = digests_of(self.publisher, self.published())
+        return compare(published, follower.digests(), follower.slot)
+
+    def published(self) -> list[str]:
+        """The tables that are published."""
+        return self.session.column("SELECT tablename FROM pg_publication_tables")
 
     def child(self, slot: str, words: list[str]) -> Child:
         """Starts a connector, which is killed at the end where it still runs."""
@@ -146,8 +157,8 @@ class Follower(Protocol):
     def stop(self) -> None:
         """Ends it in the orderly way."""
 
-    def rows(self) -> Rows:
-        """What it has, while it is stopped."""
+    def digests(self) -> Digests:
+        """Those of what it has, while it is stopped."""
 
 
 def wait_for_stream(servers: Servers, follower: Follower) -> None:
@@ -173,9 +184,10 @@ class Subscription:
 
     def copy(self, commit: str) -> None:
         """Makes the subscription, and waits until it has the rows that are there."""
+        streaming = "streaming = true, " if self.servers.streams() else ""
         self.session.run(
             f"CREATE SUBSCRIPTION {self.slot} CONNECTION '{self.servers.publisher.dsn_inside()}' PUBLICATION {PUBLICATION}"
-            f" WITH (streaming = true, synchronous_commit = {commit})",
+            f" WITH ({streaming}synchronous_commit = {commit})",
         )
         wait_until(self.is_copied, f"{self.slot}: the copy", LIMIT)
 
@@ -201,8 +213,8 @@ class Subscription:
         self.session.run(f"ALTER SUBSCRIPTION {self.slot} DISABLE")
         wait_until(lambda: self.servers.sender(self.slot) is None, f"{self.slot}: ending", LIMIT)
 
-    def rows(self) -> Rows:
-        return rows_of_server(self.servers.subscriber, PUBLICATION, database=self.slot)
+    def digests(self) -> Digests:
+        return digests_of(self.servers.subscriber, self.servers.published(), self.slot)
 
 
 class Program:
@@ -237,8 +249,8 @@ class Program:
     def stop(self) -> None:
         self.child.stop(within=LIMIT)
 
-    def rows(self) -> Rows:
-        return rows_of_store(self.servers.options.program, self.store)[0]
+    def digests(self) -> Digests:
+        return digests_of_store(self.servers.options.program, self.store)
 
 
 def parser_of(about: str) -> argparse.ArgumentParser:
@@ -253,6 +265,12 @@ def parser_of(about: str) -> argparse.ArgumentParser:
         type=int,
         metavar="N",
         help="PostgreSQL's major version (default: the newest that is there)",
+    )
+    add(
+        "--root",
+        type=Path,
+        metavar="PATH",
+        help="the root folder in which the servers run by chroot (default: none)",
     )
     add(
         "--folder",
@@ -279,7 +297,7 @@ def started(
         with tempfile.TemporaryDirectory(prefix="bench-", dir=words.folder) as folder:
             # the servers' account goes through it
             os.chmod(folder, 0o711)
-            found = installed.find(words.server, None, "postgres")
+            found = installed.find(words.server, words.root, "postgres")
             servers = Servers(
                 Options(program, TOP / "connect/pgsub-connect", found, Path(folder)), tables
             )

@@ -12,9 +12,10 @@ from processor import processor_seconds
 
 @dataclass
 class Run:
-    """Seconds from a follower's start until it had applied all, until all was on its disk, and of a
-    processor by process until the first."""
+    """Seconds from a follower's start until it streamed, until it had applied all, until all was on
+    its disk, and of a processor by process between the first and the second."""
 
+    streams: float
     applied: float
     durable: float
     processor: dict[str, float]
@@ -32,6 +33,7 @@ def measured(servers: Servers, follower: Follower, end: str) -> Run:
     follower.start()
     pids = {**follower.processes(), "walsender": servers.sender(follower.slot) or 0}
     before = processors(pids)
+    streams = time.monotonic() - began
     servers.wait_for(follower, "replay_lsn", end)
     applied = time.monotonic() - began
     after = processors(pids)
@@ -39,7 +41,7 @@ def measured(servers: Servers, follower: Follower, end: str) -> Run:
     durable = time.monotonic() - began
     follower.stop()
     servers.compare(follower)
-    return Run(applied, durable, {part: after[part] - before[part] for part in pids})
+    return Run(streams, applied, durable, {part: after[part] - before[part] for part in pids})
 
 
 def ratios(runs: list[Run], others: list[Run]) -> str:
@@ -53,3 +55,14 @@ def processor_text(runs: list[Run], *parts: str) -> str:
     """The seconds of a processor that these processes took, the median."""
     found = [sum(it.processor.get(part, 0) for part in parts) for it in runs]
     return f"{statistics.median(found):.2f}" if any(found) else ""
+
+
+def busiest(runs: list[Run]) -> str:
+    """The process that had a processor for the largest part of the time in which it streamed, and
+    that part, the median."""
+    parts = {
+        part: statistics.median(it.processor[part] / (it.applied - it.streams) for it in runs)
+        for part in runs[0].processor
+    }
+    part = max(parts, key=lambda it: parts[it])
+    return f"{part}, {parts[part]:.0%}"

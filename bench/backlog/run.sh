@@ -4,6 +4,7 @@
 #   --program PATH     the program to run (default: crates/pgsub/out/pgsub)
 #   --folder PATH      a folder on the disk that is measured, for servers and stores (default: a temporary one)
 #   --server N         PostgreSQL's major version (default: the newest that is there)
+#   --root PATH        the root folder in which the servers run by chroot (default: none)
 #   --transactions N   how many transactions the backlog has (default: 20000)
 #   --turns N          how often each follower takes it (default: 3)
 #   --scale N          pgbench's scale, 100000 accounts each (default: 1)

@@ -4,6 +4,7 @@
 #   --program PATH   the program to run (default: crates/pgsub/out/pgsub)
 #   --folder PATH    a folder on the disk that is measured, for server, store, feed and tables (default: a temporary one)
 #   --server N       PostgreSQL's major version (default: the newest that is there)
+#   --root PATH      the root folder in which the servers run by chroot (default: none)
 #   --rows N         how many rows there are, in five tables (default: 1400000)
 #   --runs N         how many copies are made, one after the other (default: 3)
 #   --proto N        the version of the protocol of pgsub (default: 2)

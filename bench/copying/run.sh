@@ -4,6 +4,7 @@
 #   --program PATH     the program to run (default: crates/pgsub/out/pgsub)
 #   --folder PATH      a folder on the disk that is measured, for servers, files and stores (default: a temporary one)
 #   --server N         PostgreSQL's major version (default: the newest that is there)
+#   --root PATH        the root folder in which the servers run by chroot (default: none)
 #   --rows N           how many rows each table has (default: 500000)
 #   --tables N         how many tables there are (default: 4)
 #   --turns N          how often each takes them (default: 3)

@@ -14,15 +14,16 @@ import sys
 from following import Follower, Program, Servers, Subscription, parser_of, started
 from kinds import KINDS, Kind
 from live_server.cluster import Cluster
-from taking import Run, measured, processor_text, ratios
+from taking import Run, busiest, measured, processor_text, ratios
 
 HEAD = """\
 Changes a second from the follower's start until the server has been told that all is applied; how many times the default subscription's rate
-that is, the median and each turn; seconds of a processor of the worker, the program, the connector and, for pgsub, the server's process that
-sends. Medians.
+that is, the median and each turn; seconds until it streams; from then on seconds of a processor: of the worker, of the program (filter), of the
+connector, and of the server's process that sends to each of the two; and which of pgsub's three processes had a processor for the largest part
+of that time. That one bounds it where the part is nearly all; else the disk does, or one waits for the other. Medians.
 
-| Load | Changes | subscription | pgsub | of the subscription's | cpu s: worker | program | connector | sends |
-|---|---|---|---|---|---|---|---|---|"""
+| Load | Changes | subscription | pgsub | of the subscription's | s, starts: subscription | pgsub | cpu s: worker | filter | connector | sends | sends | busiest |
+|---|---|---|---|---|---|---|---|---|---|---|---|---|"""
 
 
 def followers(servers: Servers, turn: int, proto: int) -> list[Follower]:
@@ -32,17 +33,23 @@ def followers(servers: Servers, turn: int, proto: int) -> list[Follower]:
     ]
 
 
-def line(kind: Kind, runs: list[list[Run]]) -> str:
+def line(kind: Kind, subscription: list[Run], program: list[Run]) -> str:
     """What the table says of a load."""
-    subscription, program = runs
-    rates = [kind.changes / statistics.median(it.applied for it in taken) for taken in runs]
-    shown = " | ".join(f"{it:,.0f}" for it in rates)
-    parts = ("filter", "connector", "walsender")
-    processor = " | ".join(processor_text(program, it) for it in parts)
-    return (
-        f"| {kind.name} | {kind.changes:,} | {shown} | {ratios(program, subscription)}"
-        f" | {processor_text(subscription, 'worker')} | {processor} |"
-    )
+    both = (subscription, program)
+    rates = (kind.changes / statistics.median(it.applied for it in runs) for runs in both)
+    starts = (statistics.median(it.streams for it in runs) for runs in both)
+    cells = [
+        kind.name,
+        f"{kind.changes:,}",
+        *(f"{it:,.0f}" for it in rates),
+        ratios(program, subscription),
+        *(f"{it:.2f}" for it in starts),
+        processor_text(subscription, "worker"),
+        *(processor_text(program, it) for it in ("filter", "connector")),
+        *(processor_text(runs, "walsender") for runs in both),
+        busiest(program),
+    ]
+    return f"| {' | '.join(cells)} |"
 
 
 def run(servers: Servers, kind: Kind, words: argparse.Namespace) -> None:
@@ -56,28 +63,37 @@ def run(servers: Servers, kind: Kind, words: argparse.Namespace) -> None:
         for taken, it in zip(runs, turn):
             taken.append(measured(servers, it, end))
             print(f"{kind.name}, {it.slot}: {taken[-1]}", file=sys.stderr, flush=True)
-    print(line(kind, runs), flush=True)
+    print(line(kind, *runs), flush=True)
 
 
 def main() -> None:
     parser = parser_of(__doc__)
     add = parser.add_argument
+    add(
+        "--rows",
+        type=int,
+        metavar="N",
+        help="how many changes each load has (default: 5,000 to 1,000,000, by the load)",
+    )
     add("--turns", type=int, default=5, metavar="N", help="how often each takes it (default: 5)")
-    add("--quick", action="store_true", help="a twentieth of the changes")
     add("--only", default="", metavar="WORD", help="only loads whose name has this word")
-    add("--proto", type=int, choices=(1, 2), default=2, help="the version of pgsub (default: 2)")
+    add("--proto", type=int, choices=(1, 2), help="the version of pgsub (default: the newest)")
     words = parser.parse_args()
     chosen = [it for it in KINDS if words.only in it.name]
     if not chosen:
         parser.error(f"no load has {words.only} in its name")
-    print(f"Version {words.proto} of the protocol; turns: {words.turns}.\n{HEAD}", flush=True)
-    for load in chosen:
-        kind = load.sized(20 if words.quick else 1)
+    for at, load in enumerate(chosen):
+        kind = load.sized(words.rows)
 
         def tables(cluster: Cluster, database: str, made: Kind = kind) -> None:
             cluster.run(*made.tables, database=database)
 
         with started(parser, words, tables) as servers:
+            words.proto = words.proto or (2 if servers.streams() else 1)
+            if at == 0:
+                version = servers.session.value("SHOW server_version")
+                about = f"version {words.proto} of the protocol; turns: {words.turns}"
+                print(f"PostgreSQL {version}; {about}.\n{HEAD}", flush=True)
             run(servers, kind, words)
 
 

@@ -4,6 +4,7 @@
 #   --program PATH   the program to run (default: crates/pgsub/out/pgsub)
 #   --folder PATH    a folder on the disk that is measured, for server, store, feed and tables (default: a temporary one)
 #   --server N       PostgreSQL's major version (default: the newest that is there)
+#   --root PATH      the root folder in which the servers run by chroot (default: none)
 #   --seconds N      how long pgbench runs each time (default: 30)
 #   --proto N        the version of the protocol of pgsub (default: 2)
 #

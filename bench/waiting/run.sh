@@ -4,6 +4,7 @@
 #   --program PATH   the program to run (default: crates/pgsub/out/pgsub)
 #   --folder PATH    a folder on the disk that is measured, for servers and stores (default: a temporary one)
 #   --server N       PostgreSQL's major version (default: the newest that is there)
+#   --root PATH      the root folder in which the servers run by chroot (default: none)
 #   --commits N      how many commits wait in each turn (default: 2000)
 #   --turns N        how often each follower is waited for (default: 3)
 #   --level LEVEL    the commits' synchronous_commit: on (the default), or remote_apply
