@@ -1,0 +1,3 @@
+mod Reading
+mod Storing
+mod Keeping

@@ -1,0 +1,28 @@
+-- Which faults a call returns.
+use Rattle.pgspool.specs.declared.fault.SpoolFault.{SpoolFault}
+use Rattle.pgspool.specs.declared.fault.SpoolFault.TheVariants as spool
+use Rattle.pgspill.specs.declared.fault.SpillFault.{SpillFault}
+use Rattle.pgspill.specs.declared.fault.SpillFault.TheVariants as spill
+
+-- where bytes go to a file
+abbrev pub IsOfWriting : SpoolFault → Type 0
+IsOfWriting spool.SpoolFull = ⊥
+IsOfWriting spool.Memory = Unit {0}
+IsOfWriting spool.NotWritten = Unit {0}
+IsOfWriting spool.NoRoom = Unit {0}
+IsOfWriting spool.NotRead = ⊥
+
+-- where they are read back
+abbrev pub IsOfReading : SpoolFault → Type 0
+IsOfReading spool.SpoolFull = ⊥
+IsOfReading spool.Memory = Unit {0}
+IsOfReading spool.NotWritten = ⊥
+IsOfReading spool.NoRoom = ⊥
+IsOfReading spool.NotRead = Unit {0}
+
+-- what a fault of the bytes is to the items
+abbrev pub told : SpillFault → SpoolFault
+told spill.NotWritten = spool.NotWritten
+told spill.NotRead = spool.NotRead
+told spill.NoRoom = spool.NoRoom
+told spill.Memory = spool.Memory

@@ -1,0 +1,4 @@
+pub mod Faults
+pub mod Stored
+pub mod AreStored
+pub mod Kept
