@@ -1,5 +1,6 @@
 -- A transaction's items, by its fields.
-use Rattle.std.proofs.Common.{◌≡◌, ◌+◌, ◌-◌, ◌≤◌, ℕ, List, ◌∷◌, ◌++◌, [], take, length, sym, ap, subst, ◌∙◌, arith, length-append}
+use Rattle.std.proofs.Common.{◌≡◌, ◌+◌, ◌-◌, ◌≤◌, ℕ, List, ◌∷◌, ◌++◌, [], take, length, sym, ap}
+use Rattle.std.proofs.Common.{subst, ◌∙◌, arith, length-append}
 use Rattle.std.specs.Prelude.{Option, min}
 use Rattle.std.proofs.lemmas.List.{length-take}
 use Rattle.pgspill.specs.declared.piece.Owner.{Owner}
@@ -54,7 +55,8 @@ module _ (key : ℕ) (file : List ℕ) (owners : List (Option Owner)) (old : Fil
   more_items new label item strand bytes firsts count sum spellable storable =
       let stored = stored_more held (strand_bytes file old.strand) old.firsts.entries old.bytes is.stored label item new.firsts.entries
       old.count count_is spellable storable firsts in
-      let one_more : length (held ++ (label, item) ∷ []) ≡ old.count + 1 = omega (arith, length-append held ((label, item) ∷ []), count_is) in
+      let one_more : length (held ++ (label, item) ∷ []) ≡ old.count + 1 =
+      omega (arith, length-append held ((label, item) ∷ []), count_is) in
       kept_as key file owners new (held ++ (label, item) ∷ []) strand (rw (bytes, sum) stored) (count ∙ sym one_more)
 
   -- those before the first one under a label

@@ -1,3 +1,5 @@
 mod Reading
 mod Storing
 mod Keeping
+mod Spooling
+mod WorkedRows

@@ -1,5 +1,6 @@
 -- What is stored is what is read, and takes as many bytes as it costs.
-use Rattle.std.proofs.Common.{◌≡◌, ◌+◌, ◌<◌, ◌^◌, ℕ, zero, suc, List, [], ◌∷◌, ◌++◌, None, take, drop}
+use Rattle.std.proofs.Common.{◌≡◌, ◌+◌, ◌<◌, ◌^◌, ℕ, zero, suc, List, [], ◌∷◌, ◌++◌, None, take}
+use Rattle.std.proofs.Common.{drop}
 use Rattle.std.proofs.Common.{length, refl, ap, ◌∙◌, arith, length-append, append_assoc}
 use Rattle.std.specs.Prelude.{Result, Ok, Err, IfOk}
 use Rattle.std.specs.Int.{to_be_bytes, from_be_bytes, w32}
@@ -13,7 +14,8 @@ use Rattle.pglogical.specs.Spelling.{item_spelling}
 use Rattle.pgspool.specs.declared.fault.SpoolFault.{SpoolFault}
 use Rattle.pgspool.specs.Labels.{LabelledItem, cost, costs}
 use Rattle.pgspool.specs.Marks.{item_in, item_read}
-use Rattle.pgfilespools.specs.Stored.{stored_item, stored, number_at, size_at, spelled_at, first_at, others_at}
+use Rattle.pgfilespools.specs.Stored.{stored_item, stored, number_at, size_at, spelled_at, first_at}
+use Rattle.pgfilespools.specs.Stored.{others_at}
 use Rattle.pgfilespools.specs.Stored.{items_in, IsStorable}
 
 abbrev pub spelling : LabelledItem → List ℕ

@@ -1,6 +1,7 @@
 -- What is stored, after a push and after a cut.
 use Rattle.std.proofs.Common.{◌≡◌, ◌+◌, ◌-◌, ◌<◌, ℕ, suc, true, false, List, [], ◌∷◌, ◌++◌, take}
-use Rattle.std.proofs.Common.{length, refl, sym, ap, subst, ◌∙◌, arith, eqb, cond, append_assoc, None, Some}
+use Rattle.std.proofs.Common.{length, refl, sym, ap, subst, ◌∙◌, arith, eqb, cond, append_assoc}
+use Rattle.std.proofs.Common.{None, Some}
 use Rattle.std.specs.Prelude.{Option}
 use Rattle.std.specs.List.{AllByRecursion}
 use Rattle.std.proofs.lemmas.List.{append-nil, take_at}
@@ -17,7 +18,8 @@ use Rattle.pgspool.specs.FirstPlaces.{FirstPlaces, noted}
 use Rattle.pgspool.proofs.Cuts.{cut-append-cut_away}
 use Rattle.pgspool.proofs.FirstPlaceLemmas.{TellsCut}
 use Rattle.pgspool.proofs.IndexLemmas.{AreIndexed-push, AreIndexed-cut}
-use Rattle.pgfilespools.specs.Stored.{stored_item, stored, first_at, others_at, items_in, IsStorable}
+use Rattle.pgfilespools.specs.Stored.{stored_item, stored, first_at, others_at, items_in}
+use Rattle.pgfilespools.specs.Stored.{IsStorable}
 use Rattle.pgfilespools.specs.AreStored.{AreStored}
 use Rattle.pgfilespools.proofs.Reading.{stored-push, length-stored, items_again}
 

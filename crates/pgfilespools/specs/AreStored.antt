@@ -1,4 +1,5 @@
--- What is true of the bytes of a transaction's items, and of what is kept beside them: where each label first stands, and what the items cost.
+-- What is true of the bytes of a transaction's items, and of what is kept beside them: where each
+-- label first stands, and what the items cost.
 use Rattle.std.specs.Prelude.{◌≡◌, ℕ, List}
 use Rattle.std.specs.List.{AllByRecursion}
 use Rattle.pgspool.specs.Labels.{LabelledItem}

@@ -26,3 +26,11 @@ told spill.NotWritten = spool.NotWritten
 told spill.NotRead = spool.NotRead
 told spill.NoRoom = spool.NoRoom
 told spill.Memory = spool.Memory
+
+-- where an item is held
+abbrev pub IsOfPushing : SpoolFault → Type 0
+IsOfPushing spool.SpoolFull = Unit {0}
+IsOfPushing spool.Memory = Unit {0}
+IsOfPushing spool.NotWritten = Unit {0}
+IsOfPushing spool.NoRoom = Unit {0}
+IsOfPushing spool.NotRead = ⊥

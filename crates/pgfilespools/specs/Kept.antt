@@ -27,4 +27,5 @@ pub record Adds (l : LabelledItem) (old new : FileItems) (key : ℕ) (file : Lis
 
 -- wherever they were kept
 abbrev pub Wherever : (FileItems → FileItems → ℕ → List ℕ → List (Option Owner) → Type 0) → FileItems → FileItems → Type 0
-Wherever change old new = (key : ℕ) (file : List ℕ) (owners : List (Option Owner)) → AreKept key file owners old → change old new key file owners
+Wherever change old new =
+    (key : ℕ) (file : List ℕ) (owners : List (Option Owner)) → AreKept key file owners old → change old new key file owners

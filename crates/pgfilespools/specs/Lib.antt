@@ -2,3 +2,4 @@ pub mod Faults
 pub mod Stored
 pub mod AreStored
 pub mod Kept
+pub mod Spooled

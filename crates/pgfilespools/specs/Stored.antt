@@ -1,5 +1,6 @@
--- Items as the bytes that are stored of them: for each its label and the length of its spelling, four bytes each with the most significant first,
--- then the spelling outside a block. So an item takes as many bytes as it costs.
+-- Items as the bytes that are stored of them: for each its label and the length of its spelling,
+-- four bytes each with the most significant first, then the spelling outside a block. So an item
+-- takes as many bytes as it costs.
 use Rattle.std.specs.Prelude.{◌<◌, ◌^◌, ℕ, zero, suc, List, [], ◌∷◌, ◌++◌, None, length, take, drop}
 use Rattle.std.specs.Int.{to_be_bytes, from_be_bytes, w32}
 use Rattle.std.specs.List.{flat_map}

@@ -12,7 +12,8 @@ returns-in_err-append-clause-err c =
     (λ key file owners is.
     let e = c.in_err-append.ensures in
     let new = c.append.new.self in
-    let r = same_items key file owners c.args.self.now is key file owners new (e.strand key file owners is.strand) (e.err file) (search rules)
+    let r = same_items key file owners c.args.self.now is key file owners new (e.strand key file owners is.strand) (e.err file)
+    (search rules)
     e.count e.bytes in
     record { kept = r.0; same = r.1 })
 
@@ -25,7 +26,8 @@ returns-clause-ok c key file owners is =
     search rules in
     let count : c.in-Some.count ≡ c.args.self.now.count + 1 = search rules in
     let sum : new.bytes + c.len.result ≡ c.args.self.now.bytes + cost c.args.item.now = search rules in
-    let bytes = e.ok file ∙ ap (λ b. strand_bytes file c.args.self.now.strand ++ b) (c.as_slice.ensures.value ∙ c.in_ok-bytes.ensures.bytes) in
+    let bytes = e.ok file
+    ∙ ap (λ b. strand_bytes file c.args.self.now.strand ++ b) (c.as_slice.ensures.value ∙ c.in_ok-bytes.ensures.bytes) in
     let r = more_items key file owners c.args.self.now is _ c.args.subxid c.args.item.now (e.strand key file owners is.strand) bytes firsts
     count sum c.requires.spellable c.in_ok-bytes.ensures.storable in
     record { kept = r.0; added = r.1 }

@@ -1,0 +1,378 @@
+//! Spools whose items go on in a file.
+
+ghost use Rattle.std.specs.Prelude.{◌≡◌, ◌≤◌, ◌<◌, ◌+◌, ◌↔◌, ◌∷◌, ◌++◌, [], IsTrue, OnOk, OnErr};
+ghost use Rattle.std.specs.Prelude.{IfOk, IfErr};
+ghost use Rattle.std.specs.Prelude.{IfSome, IsSome, option_map, slice_get, length, true, false};
+ghost use Rattle.std.specs.Prelude.{if◌then◌else◌};
+ghost use Rattle.std.specs.FinMap as map;
+ghost use Rattle.pglogical.specs.Spelling.{IsSpellable};
+ghost use Rattle.pgspool.specs.Labels.{LabelledItem, cut as cut_of, held_of, cost, all_costs};
+ghost use Rattle.pgfilespools.specs.Faults.{IsOfWriting, IsOfReading, IsOfPushing};
+ghost use Rattle.pgfilespools.specs.Spooled.{IsLoaded, IsReady};
+
+use crate::file_items::FileItems;
+use crate::stored::OVERHEAD;
+use indexmap::IndexMap;
+use pglogical::{ItemRef, spelled_len};
+use pgspill::Blocks;
+use pgspool::{EncodedItems, SpoolFault, TransactionItems};
+use sqlite_disk::Disk;
+use std::alloc::Global;
+use std::marker::Model;
+
+/// The buffered items of open transactions: in memory up to a number of bytes, the others in blocks
+/// of one file, which all transactions share.
+///
+/// Each transaction costs some two hundred bytes of memory beside, and each subtransaction forty.
+#[derive(Drop)]
+pub struct FileSpools<D: Disk + Drop> {
+    alloc: Global,
+    blocks: Blocks<D>,
+    transactions: IndexMap<u32, FileItems>,
+    bytes: u64,
+    max_bytes: u64,
+    in_memory: u64,
+    max_in_memory: u64,
+    loaded: Option<(u32, EncodedItems)>,
+}
+
+impl<D: Disk + Drop> Model for FileSpools<D> {
+    ghost use Rattle.std.specs.Prelude.{IsTrue};
+    ghost use Rattle.pgfilespools.specs.Spooled.{FileSpooled, spooled_code};
+
+    ghost Value = { FileSpooled };
+
+    ghost coded = { spooled_code };
+
+    ghost use Rattle.pgfilespools.specs.Spooled.{held_in_file, AreSpooled};
+
+    ghost view = { λ s. record {
+      held = held_in_file (D.seen s.blocks.disk) s.transactions.entries;
+      most = s.max_bytes;
+      loaded = s.loaded;
+      is_honest = D.is_clean s.blocks.disk;
+    } };
+
+    ghost invariant = { λ s. AreSpooled s.blocks.key (D.seen s.blocks.disk) s.blocks.owners.items
+        s.transactions.entries s.bytes s.max_bytes × IsTrue (D.is_usable s.blocks.disk) };
+}
+
+// A number of bytes, of which so many have become others.
+fn changed(total: u64, was: usize, now: usize) -> u64 {
+    total.saturating_sub(was as u64).saturating_add(now as u64)
+}
+
+impl<D: Disk + Drop> FileSpools<D> {
+    /// Spools without an open transaction, over a file of which nothing is read that wasn't written
+    /// since. All items may cost `max_bytes` at most, and `max_in_memory` bytes of them stay in
+    /// memory.
+    pub fn new(alloc: Global, disk: D, max_bytes: u64, max_in_memory: u64) -> FileSpools<D>
+        requires { IsTrue (D.is_usable disk) }
+        ensures empty { result.held ≡ map.empty }
+        ensures limit { result.most ≡ max_bytes }
+        ensures honest { result.is_honest ≡ D.is_clean disk }
+    {
+        FileSpools {
+            alloc,
+            blocks: Blocks::new(alloc, disk),
+            transactions: IndexMap::new(alloc),
+            bytes: 0,
+            max_bytes,
+            in_memory: 0,
+            max_in_memory,
+            loaded: None,
+        }
+    }
+
+    /// Whether items of this transaction may be buffered.
+    pub fn is_open(&self, xid: u32) -> bool
+        ensures { result ≡ map.contains_key self.now.held xid }
+    {
+        self.transactions.contains_key(&xid)
+    }
+
+    /// Opens a transaction, without items.
+    ///
+    /// # Errors
+    ///
+    /// `Memory`.
+    pub fn open(&mut self, xid: u32) -> Result<(), SpoolFault>
+        requires { map.contains_key self.old.held xid ≡ false }
+        ensures ok { OnOk result (self.new.held ≡ map.insert self.old.held xid []) }
+        ensures fault { IfErr result (λ fault. fault ≡ SpoolFault.Memory) }
+        ensures err { OnErr result (self.new.held ≡ self.old.held) }
+        ensures limit { self.new.most ≡ self.old.most }
+        ensures honest { self.new.is_honest ≡ self.old.is_honest }
+    {
+        let items = FileItems::new(self.alloc, xid);
+        self.transactions.insert(xid, items)?;
+        Ok(())
+    }
+
+    // Whether an item costs no more than what is left of the limit.
+    fn has_room(&self, item: &ItemRef<'_>) -> bool
+        ensures { (result ≡ true) ↔ (all_costs self.now.held + cost item.now ≤ self.now.most) }
+    {
+        let room = self.max_bytes - self.bytes;
+        room >= OVERHEAD && room - OVERHEAD >= spelled_len(item)
+    }
+
+    // The transaction that has most bytes in memory.
+    fn longest(&self) -> Option<u32> {
+        let mut longest = None;
+        let mut most = 0;
+        for (xid, items) in self.transactions.iter() {
+            if items.in_memory() > most {
+                most = items.in_memory();
+                longest = Some(*xid);
+            }
+        }
+        longest
+    }
+
+    // Writes what a transaction has in memory to the file.
+    fn spill(&mut self, xid: u32) -> Result<(), SpoolFault>
+        ensures held { self.new.held ≡ self.old.held }
+        ensures limit { self.new.most ≡ self.old.most }
+        ensures honest { self.new.is_honest ≡ self.old.is_honest }
+        ensures fault { IfErr result IsOfWriting }
+    {
+        let Some(items) = self.transactions.get_mut(&xid) else {
+            return Ok(());
+        };
+        let was = items.in_memory();
+        let written = items.spill(&mut self.blocks);
+        self.in_memory = changed(self.in_memory, was, items.in_memory());
+        written
+    }
+
+    // Writes the longest transaction's bytes to the file, where so many more would be too many for
+    // memory.
+    fn make_room(&mut self, bytes: u64) -> Result<(), SpoolFault>
+        ensures held { self.new.held ≡ self.old.held }
+        ensures limit { self.new.most ≡ self.old.most }
+        ensures honest { self.new.is_honest ≡ self.old.is_honest }
+        ensures fault { IfErr result IsOfWriting }
+    {
+        if self.in_memory.saturating_add(bytes) <= self.max_in_memory {
+            return Ok(());
+        }
+        match self.longest() {
+            Some(xid) => self.spill(xid),
+            None => Ok(()),
+        }
+    }
+
+    // Holds an item after those of its transaction, in memory.
+    fn hold(&mut self, xid: u32, subxid: u32, item: &ItemRef<'_>) -> Result<(), SpoolFault>
+        requires open { map.contains_key self.old.held xid ≡ true }
+        requires spellable { IsSpellable item.now }
+        requires room { all_costs self.old.held + cost item.now ≤ self.old.most }
+        ensures ok { OnOk result (self.new.held ≡ map.insert self.old.held xid
+            (held_of self.old.held xid ++ (subxid, item.now) ∷ [])) }
+        ensures fault { IfErr result IsOfWriting }
+        ensures err { OnErr result (self.new.held ≡ self.old.held) }
+        ensures limit { self.new.most ≡ self.old.most }
+        ensures honest { self.new.is_honest ≡ self.old.is_honest }
+    {
+        let alloc = self.alloc;
+        let cost = OVERHEAD + spelled_len(item);
+        let Some(items) = self.transactions.get_mut(&xid) else {
+            unreachable!()
+        };
+        items.push(alloc, subxid, item)?;
+        self.bytes += cost;
+        self.in_memory = self.in_memory.saturating_add(cost);
+        Ok(())
+    }
+
+    // Lets go of the items that were read back.
+    fn unload(&mut self)
+        ensures held { self.new.held ≡ self.old.held }
+        ensures limit { self.new.most ≡ self.old.most }
+        ensures honest { self.new.is_honest ≡ self.old.is_honest }
+    {
+        self.loaded = None;
+    }
+
+    /// Holds an item after those of its transaction. Where memory is full, the transaction that has
+    /// most bytes there goes on in the file.
+    ///
+    /// # Errors
+    ///
+    /// `SpoolFull` exactly where it would cost more than the limit; `NotWritten` and `NoRoom` where
+    /// a write fails, and `Memory`. What is held stays.
+    pub fn push(&mut self, xid: u32, subxid: u32, item: &ItemRef<'_>) -> Result<(), SpoolFault>
+        requires open { map.contains_key self.old.held xid ≡ true }
+        requires spellable { IsSpellable item.now }
+        ensures ok { OnOk result (self.new.held ≡ map.insert self.old.held xid
+            (held_of self.old.held xid ++ (subxid, item.now) ∷ [])) }
+        ensures full { (result ≡ Err SpoolFault.SpoolFull) ↔
+            (self.old.most < all_costs self.old.held + cost item.now) }
+        ensures fault { IfErr result IsOfPushing }
+        ensures err { OnErr result (self.new.held ≡ self.old.held) }
+        ensures limit { self.new.most ≡ self.old.most }
+        ensures honest { self.new.is_honest ≡ self.old.is_honest }
+    {
+        if !self.has_room(item) {
+            return Err(SpoolFault::SpoolFull);
+        }
+        self.unload();
+        self.make_room(OVERHEAD.saturating_add(spelled_len(item)))?;
+        self.hold(xid, subxid, item)
+    }
+
+    /// Keeps a transaction's items before the first one of a subtransaction: all of them where it
+    /// has none. A transaction that isn't open stays so. Nothing is read, and the blocks of the
+    /// others are free.
+    pub fn cut(&mut self, xid: u32, subxid: u32)
+        ensures held { self.new.held ≡ (if map.contains_key self.old.held xid then
+            map.insert self.old.held xid (cut_of subxid (held_of self.old.held xid))
+            else self.old.held) }
+        ensures limit { self.new.most ≡ self.old.most }
+        ensures honest { self.new.is_honest ≡ self.old.is_honest }
+    {
+        self.unload();
+        self.shorten(xid, subxid);
+    }
+
+    // Keeps a transaction's items before the first one of a subtransaction.
+    fn shorten(&mut self, xid: u32, subxid: u32)
+        ensures held { self.new.held ≡ (if map.contains_key self.old.held xid then
+            map.insert self.old.held xid (cut_of subxid (held_of self.old.held xid))
+            else self.old.held) }
+        ensures limit { self.new.most ≡ self.old.most }
+        ensures honest { self.new.is_honest ≡ self.old.is_honest }
+    {
+        if let Some(items) = self.transactions.get_mut(&xid) {
+            let was = items.in_memory();
+            self.bytes -= items.cut(&mut self.blocks, subxid);
+            self.in_memory = changed(self.in_memory, was, items.in_memory());
+        }
+    }
+
+    /// The number of a transaction's items, 0 where it isn't open.
+    pub fn count(&self, xid: u32) -> usize
+        ensures { result ≡ length (held_of self.now.held xid) }
+    {
+        match self.transactions.get(&xid) {
+            Some(items) => items.len(),
+            None => 0,
+        }
+    }
+
+    // Reads a transaction's items.
+    fn read(&mut self, xid: u32) -> Result<EncodedItems, SpoolFault>
+        ensures read { IsTrue self.new.is_honest → IfOk result (λ items. items
+            ≡ held_of self.old.held xid) }
+        ensures all { IfOk result (λ items. length items ≡ length (held_of self.old.held xid)) }
+        ensures fault { IfErr result IsOfReading }
+        ensures held { self.new.held ≡ self.old.held }
+        ensures limit { self.new.most ≡ self.old.most }
+        ensures honest { IsTrue self.new.is_honest → IsTrue self.old.is_honest }
+    {
+        let alloc = self.alloc;
+        match self.transactions.get(&xid) {
+            Some(items) => items.load(alloc, &mut self.blocks),
+            None => Ok(EncodedItems::new(alloc)),
+        }
+    }
+
+    /// Makes the items of a transaction ready to be borrowed: those in the file are read and
+    /// tested. They stand in memory whole then, until the next call that changes what is held.
+    ///
+    /// # Errors
+    ///
+    /// `NotRead` where they can't be read, or other bytes are read, and `Memory`. What is held
+    /// stays.
+    pub fn load(&mut self, xid: u32) -> Result<(), SpoolFault>
+        ensures loaded { IsTrue self.new.is_honest → OnOk result (IsLoaded self.new xid) }
+        ensures ready { OnOk result (IsReady self.new xid) }
+        ensures fault { IfErr result IsOfReading }
+        ensures held { self.new.held ≡ self.old.held }
+        ensures limit { self.new.most ≡ self.old.most }
+        ensures honest { IsTrue self.new.is_honest → IsTrue self.old.is_honest }
+    {
+        self.unload();
+        let items = self.read(xid)?;
+        self.loaded = Some((xid, items));
+        Ok(())
+    }
+
+    /// Borrows the item of a loaded transaction at an index, as it was pushed.
+    pub fn item(&self, xid: u32, index: usize) -> Option<ItemRef<'_>>
+        ensures value { IsLoaded self.now xid → result ≡ option_map (λ (l : LabelledItem). l.1)
+            (slice_get (held_of self.now.held xid) index) }
+        ensures there { IsReady self.now xid → index < length (held_of self.now.held xid) →
+            IsSome result }
+        ensures spellable { IfSome result (λ i. IsSpellable i) }
+    {
+        let (loaded, items) = self.loaded.as_ref()?;
+        if *loaded != xid {
+            return None;
+        }
+        items.item(index)
+    }
+
+    /// Forgets a transaction and its items. Without effect where it isn't open. Nothing is read,
+    /// and its blocks are free.
+    pub fn drop_xid(&mut self, xid: u32)
+        ensures held { self.new.held ≡ map.remove self.old.held xid }
+        ensures limit { self.new.most ≡ self.old.most }
+        ensures honest { self.new.is_honest ≡ self.old.is_honest }
+    {
+        self.unload();
+        self.forget(xid);
+    }
+
+    // Forgets a transaction and its items.
+    fn forget(&mut self, xid: u32)
+        ensures held { self.new.held ≡ map.remove self.old.held xid }
+        ensures limit { self.new.most ≡ self.old.most }
+        ensures honest { self.new.is_honest ≡ self.old.is_honest }
+    {
+        if let Some(items) = self.transactions.swap_remove(&xid) {
+            self.bytes -= items.bytes();
+            self.in_memory = changed(self.in_memory, items.in_memory(), 0);
+            items.free(&mut self.blocks);
+        }
+    }
+
+    /// Forgets all transactions, and gives back the file's room where that can be done.
+    pub fn clear(&mut self)
+        ensures held { self.new.held ≡ map.empty }
+        ensures limit { self.new.most ≡ self.old.most }
+        ensures honest { self.new.is_honest ≡ self.old.is_honest }
+    {
+        self.unload();
+        self.transactions = IndexMap::new(self.alloc);
+        self.blocks.clear();
+        self.bytes = 0;
+        self.in_memory = 0;
+    }
+
+    /// What all items cost in bytes: for each eight, and its encoding outside a block.
+    pub fn bytes(&self) -> u64
+        ensures value { result ≡ all_costs self.now.held }
+        ensures within { result ≤ self.now.most }
+    {
+        self.bytes
+    }
+
+    /// The most that `bytes` may come to. No call changes it.
+    pub fn limit(&self) -> u64
+        ensures { result ≡ self.now.most }
+    {
+        self.max_bytes
+    }
+
+    /// How many bytes of items are in memory, the loaded ones beside.
+    pub fn in_memory(&self) -> u64 {
+        self.in_memory
+    }
+
+    /// How many blocks the file has had at once.
+    pub fn blocks(&self) -> usize {
+        self.blocks.len()
+    }
+}
