@@ -41,10 +41,10 @@ GROUPS = {
 COMMANDS = tuple(name for names in GROUPS.values() for name in names)
 HELP = "help"
 # The commands of `pgsub`, each with what does that beside a follower, which alone has the store open.
-OF_PROGRAM = dict.fromkeys(("apply", "show", "same", "resume", "lsn"), "")
-OF_PROGRAM[
-    "dump"
-] = ". While a follower has the store open, `pgsub-connect export` copies the rows, `snapshot` the store"
+OF_PROGRAM = dict.fromkeys(("apply", "show", "same", "resume", "lsn", "dump"), "")
+OF_PROGRAM |= {
+    "dump": ". While a follower has the store open, `pgsub-connect export` copies the rows, `snapshot` the store"
+}
 
 
 class Command(Protocol):

@@ -29,19 +29,9 @@ from functools import partial
 ROOM = 10
 # what the text of a fault has at most
 TEXT = 256
-NAMES = {
-    1: "wire",
-    2: "decode",
-    3: "order",
-    4: "relation",
-    5: "spool",
-    6: "store",
-    8: "closed",
-    9: "memory",
-    11: "no such protocol version",
-    12: "the subscriber is closed",
-    13: "the subscriber is open",
-}
+NAMES = dict(enumerate(("wire", "decode", "order", "relation", "spool", "store"), 1))
+NAMES |= {8: "closed", 9: "memory", 11: "no such protocol version"}
+NAMES |= {12: "the subscriber is closed", 13: "the subscriber is open"}
 
 
 class Fault(Exception):

@@ -61,9 +61,6 @@ class Recording:
             self.out.write(line + "\n")
             self.written += len(line) + 1
 
-    def write_frame(self, frame: bytes) -> None:
-        self.write_line(frame.hex())
-
     def write_payload(self, payload: bytes) -> None:
         self.write_line(header(payload).hex() + payload.hex())
 
@@ -271,7 +268,7 @@ class Recorder(Worker):
         while not self.is_enough():
             payload = connection.next_payload()
             if payload is None:
-                self.recording.write_frame(COPY_DONE)
+                self.recording.write_line(COPY_DONE.hex())
                 return False
             if not payload:
                 return True

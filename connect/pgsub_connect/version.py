@@ -19,8 +19,5 @@ def check_program(program: str) -> None:
 
 
 def text_of(build: dict[str, str]) -> str:
-    return (
-        f"the build {build.get('version', '?')} ({build.get('program', '?')[:12]})"
-        if build
-        else "an unknown build"
-    )
+    known = f"the build {build.get('version', '?')} ({build.get('program', '?')[:12]})"
+    return known if build else "an unknown build"

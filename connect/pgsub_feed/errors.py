@@ -36,12 +36,12 @@ class FileError(Failure):
 
 
 @contextlib.contextmanager
-def told_of(path: str) -> Iterator[None]:
-    """Tells of which file an error of the system is."""
+def told_of(path: str, kind: type[Failure] = FileError) -> Iterator[None]:
+    """Tells of which file an error of the system is, by an exception of this kind."""
     try:
         yield
     except OSError as error:
-        raise FileError(f"{path}: {error.strerror}") from None
+        raise kind(f"{path}: {error.strerror}") from None
 
 
 class NoFeed(FileError):

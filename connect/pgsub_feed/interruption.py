@@ -86,6 +86,18 @@ def rest(seconds: float, check: Check, step: float = 0.2) -> None:
         time.sleep(min(left, step))
 
 
+def limited(seconds: float, error: Exception, check: Check = never) -> Check:
+    """A check that raises an error, too, once so many seconds are over."""
+    until = time.monotonic() + seconds
+
+    def check_time() -> None:
+        check()
+        if time.monotonic() > until:
+            raise error
+
+    return check_time
+
+
 def stop(*_: object) -> None:
     raise Stopped
 

@@ -360,8 +360,8 @@ BUGS = (
     Bug(
         "what is noted of commits stays where its store goes",
         "pgsub_connect/store/placing.py",
-        "    REPEATS,\n",
-        "",
+        "SUFFIX, REPEATS),",
+        "SUFFIX),",
         ("test_repeats",),
     ),
     Bug(
@@ -836,8 +836,8 @@ BUGS = (
     Bug(
         "a slot that somebody else moved is dropped",
         "pgsub_connect/copy/copy_slot.py",
-        "if at == str(position):",
-        "if at:",
+        "if connection.value(of_slot(POSITION, slot)) == str(position):",
+        "if connection.value(of_slot(POSITION, slot)):",
         ("test_copying",),
     ),
     Bug(

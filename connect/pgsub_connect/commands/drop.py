@@ -28,7 +28,8 @@ from ..server.connection import Connection
 from ..server.libpq import TICK
 from ..server.publication_content import drop_publication, oid_of, other_slots
 from ..server.publication_setup import inserts_of
-from ..server.session import Server, Subscription, database_oid, is_same_database, other_slot
+from ..server import session
+from ..server.session import Subscription, database_oid, is_same_database, of_slot, other_slot
 from ..status.files import STATUS
 from ..store.checkpoint import locked, read_known
 from ..store.placing import OF_STORE
@@ -150,7 +151,7 @@ class Dropper:
             "SELECT s.system_identifier, pg_catalog.current_database() FROM pg_catalog.pg_control_system() s"
         )[0]
         oid, noted = database_oid(connection), noted_database(self.remembered)
-        server = Server(system or "", 0, 0, database or "", False, database_oid=oid)
+        server = session.Server(system or "", 0, 0, database or "", False, database_oid=oid)
         if system != known.system or not is_same_database(known.database, noted, server):
             text = f"the store follows the database {known.database} of the server {known.system}, and this is {database} of {system}"
             raise Unfit(text)
@@ -158,10 +159,8 @@ class Dropper:
     @understood("a slot")
     def drop_slot(self, connection: Connection) -> bool:
         """Drops the slot. Returns whether it is gone."""
-        query = (
-            "SELECT s.active, s.plugin = 'pgoutput' AND s.database = pg_catalog.current_database()"
-            f" FROM pg_catalog.pg_replication_slots s WHERE s.slot_name = {literal(self.slot)}"
-        )
+        is_ours = "s.plugin = 'pgoutput' AND s.database = pg_catalog.current_database()"
+        query = of_slot(f"s.active, {is_ours}", self.slot)
         rows = connection.rows(query)
         if not rows:
             log.info(f"the server has no slot {self.slot}")

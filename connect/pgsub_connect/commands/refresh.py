@@ -28,7 +28,6 @@ from ..drift.remembered import Remembered
 from ..server.catalog import Catalog
 from ..server.catalog_reader import read_catalog
 from ..server.publication_setup import names_of
-from ..server.session import Subscription
 from ..store.at_rest import check_there
 from ..store.checkpoint import read_known
 from . import add
@@ -114,7 +113,10 @@ def run(options: Options, check: Check) -> int:
     remembered = Remembered(options.store, options.mode)
     if remembered.catalog is None:
         raise FileError(f"{remembered.path}: there is no such file yet: the next session makes it")
-    told = compared(remembered, read_now(subscription, check, remembered.catalog))
+    with subscription.connected("tables", check) as connection:
+        now = read_catalog(connection, subscription.publications)
+        now = resolved(connection, remembered.catalog, now)
+    told = compared(remembered, now)
     for it in told:
         print(it.line(), flush=True)
     tables = {it.oid: it.table for it in told if it.what in (MISSING, CHANGED)}
@@ -133,8 +135,3 @@ def run(options: Options, check: Check) -> int:
     if not options.yes and not ask_terminal(f"{'; '.join(parts)}?", check, "refresh"):
         return LEFT
     return add.add(options.store, options.mode, tables, check, extra)
-
-
-def read_now(subscription: Subscription, check: Check, before: Catalog) -> Catalog:
-    with subscription.connected("tables", check) as connection:
-        return resolved(connection, before, read_catalog(connection, subscription.publications))

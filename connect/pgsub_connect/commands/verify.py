@@ -58,9 +58,6 @@ class Options(StoreOptions):
         type=within_seconds(600.0),
     )
 
-    def store_comparison(self) -> StoreComparison:
-        return StoreComparison(self.subscription(), self.store, self.hold, self.show)
-
     def tables_comparison(self) -> TablesComparison:
         files, how = (self.tables, self.other, self.store, self.feed), (self.digests, self.table)
         return TablesComparison(self.subscription(), *files, *how, self.hold, self.show)
@@ -103,7 +100,8 @@ def run(options: Options, check: Check) -> int:
 
 
 def verify(options: Options, check: Check) -> int:
-    found, comparison = Compared(), options.store_comparison()
+    found, it = Compared(), options
+    comparison = StoreComparison(it.subscription(), it.store, it.hold, it.show)
     for choose in found.tries(lambda it: it.chosen(list(options.table))):
         compare(comparison, choose, found, check)
     if found.different and options.repair:

@@ -118,11 +118,8 @@ class Copier(Worker):
         """Drops what was made, unless the next start can go on with it."""
         known = self.checkpoint.known
         if known.phase == SLOT:
-            is_lasting = (
-                isinstance(error, (FilterEnded, Unfit, FileError))
-                or isinstance(error, ServerError)
-                and error.is_lasting()
-            )
+            is_lasting = isinstance(error, (FilterEnded, Unfit, FileError))
+            is_lasting = is_lasting or isinstance(error, ServerError) and error.is_lasting()
             if self.remembered.copied and not is_lasting:
                 with contextlib.suppress(FileError, Passing):
                     self.remembered.save()
@@ -188,9 +185,8 @@ class Copier(Worker):
             self.copy_anew(replication, server)
         else:
             self.check_own(server, slot_at)
-            self.subscription.note_publications(
-                self.remembered.publications() or self.subscription.publications
-            )
+            names = self.remembered.publications() or self.subscription.publications
+            self.subscription.note_publications(names)
             if self.checkpoint.known.phase == SLOT and not self.goes_on(replication, slot_at):
                 drop_slot(replication, slot)
                 self.forget_slot()

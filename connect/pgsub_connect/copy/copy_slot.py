@@ -11,13 +11,13 @@ import time
 
 from pgsub_feed import log
 from pgsub_feed.errors import Unfit
-from pgsub_feed.interruption import Check
+from pgsub_feed.interruption import Check, limited
 from pgsub_feed.texts import counted, identifier, literal, lsn_text
 
 from ..errors import ServerError
 from ..server.connection import QUICK, Connection
 from ..server.publication_setup import REFUSED
-from ..server.session import Subscription, is_lost, settle, slot_position
+from ..server.session import POSITION, Subscription, is_lost, of_slot, settle, slot_position
 from ..server.slot import IDLE, idle_limit
 from ..server.waits import Waiting
 from .slots import create_temporary
@@ -128,25 +128,17 @@ class CopySlot:
 
     def drop(self, position: int) -> bool:
         """Drops the lasting slot by a connection of its own. Returns whether it is gone."""
-        until, slot = time.monotonic() + LIMIT, self.subscription.slot
+        dsn, slot = self.subscription.dsn, self.subscription.slot
         log.info(f"dropping the slot {slot} again, which may take {LIMIT:.0f} seconds")
-
-        def check() -> None:
-            if time.monotonic() > until:
-                raise ServerError("no answer")
-
-        query = f"FROM pg_catalog.pg_replication_slots s WHERE s.slot_name = {literal(slot)}"
+        name, check = f"{slot} copy", limited(LIMIT, ServerError("no answer"))
         try:
             with contextlib.closing(
-                Connection(self.subscription.dsn, name=f"{slot} copy", quiet=True, check=check)
+                Connection(dsn, name=name, quiet=True, check=check)
             ) as connection:
                 # (one that was moved since is somebody else's)
-                at = connection.value(
-                    f"SELECT s.confirmed_flush_lsn - '0/0'::pg_catalog.pg_lsn {query}"
-                )
-                if at == str(position):
-                    drop = f"SELECT pg_catalog.pg_drop_replication_slot(s.slot_name) {query}"
-                    connection.rows(drop)
+                if connection.value(of_slot(POSITION, slot)) == str(position):
+                    drop = "pg_catalog.pg_drop_replication_slot(s.slot_name)"
+                    connection.rows(of_slot(drop, slot))
         except (ServerError, Unfit) as error:
             log.warning(f"the slot {slot} was made and not dropped again: {error}")
             return False

@@ -5,7 +5,7 @@ import secrets
 from pgsub_feed import log
 from pgsub_feed.errors import Unfit
 from pgsub_feed.interruption import Check, never
-from pgsub_feed.texts import identifier, literal, parse_lsn
+from pgsub_feed.texts import identifier, parse_lsn
 
 from ..drift.remembered import Remembered
 from ..errors import ServerError, understood
@@ -14,7 +14,7 @@ from ..server.catalog_reader import read_catalog
 from ..server.connection import QUICK, Connection
 from ..server.publication_content import has_publication
 from ..server.publication_setup import Look, Maker, Wanted
-from ..server.session import Subscription, settle, settle_for_slot, slot_position
+from ..server.session import Subscription, of_slot, settle, settle_for_slot, slot_position
 from ..server.waits import Waiting
 
 
@@ -32,10 +32,7 @@ def set_failover(replication: Connection, slot: str, wanted: bool) -> None:
     """Makes a slot one that standbys get too, as the copy of one never is."""
     if not wanted:
         return
-    is_failover = replication.value(
-        f"SELECT s.failover FROM pg_catalog.pg_replication_slots s WHERE s.slot_name = {literal(slot)}"
-    )
-    if is_failover != "t":
+    if replication.value(of_slot("s.failover", slot)) != "t":
         replication.run(f"ALTER_REPLICATION_SLOT {identifier(slot)} (FAILOVER true)")
 
 

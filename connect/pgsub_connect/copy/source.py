@@ -15,7 +15,7 @@ import time
 from collections.abc import Callable, Iterable, Mapping
 
 from pgsub_feed.errors import Passing, Unfit
-from pgsub_feed.interruption import Check, undone_by
+from pgsub_feed.interruption import Check, limited, undone_by
 from pgsub_feed.options import meant
 from pgsub_feed.tables.names import names_of
 from pgsub_feed.texts import literal
@@ -162,23 +162,16 @@ class Source:
 
         `check_end`: what is called meanwhile in place of what else is.
         """
-        until = time.monotonic() + seconds
         dsn, slot = self.subscription.dsn, self.subscription.slot
         waiting = Waiting(dsn, slot, check_end or self.check)
-        waiting.tell_by(until - 1)
-
-        def check() -> None:
-            waiting.check()
-            if time.monotonic() > until:
-                raise no_slot(seconds)
-
+        waiting.tell_by(time.monotonic() + seconds - 1)
+        check = limited(seconds, no_slot(seconds), waiting.check)
         # (a server that waits for a transaction doesn't see that whoever asked was killed)
         self.replication.run(f"SET lock_timeout = {round(seconds * 1000)}")
         try:
             with self.replication.checked_by(check):
-                _, point, snapshot = create_temporary(
-                    self.replication, f"{slot[:40]}_{self.purpose}"
-                )
+                name = f"{slot[:40]}_{self.purpose}"
+                _, point, snapshot = create_temporary(self.replication, name)
         except ServerError as error:
             raise no_slot(seconds) if error.sqlstate == LOCK_TIMEOUT else error from None
         return point, snapshot

@@ -47,12 +47,9 @@ class CopiedTables:
             raise ServerError(CHANGED)
         now = self.published(plain)
         late = [it for it in now if it not in tables]
-        self.later = {
-            **{it.oid: "it was published while the slot was made" for it in late},
-            **dict.fromkeys(
-                altered_tables(before, after), "it was altered while the slot was made"
-            ),
-        }
+        self.later = {it.oid: "it was published while the slot was made" for it in late}
+        altered = altered_tables(before, after)
+        self.later |= dict.fromkeys(altered, "it was altered while the slot was made")
         self.sizes = sizes = sizes_of(plain, tables)
         self.remembered.begin_copy(after, point)
         self.name_new(late, point)

@@ -120,11 +120,9 @@ class DurableFile:
         if not first or length + len(line) - first > max(first, LEAST):
             return False
         self.first = 0
-        try:
+        with told_of(self.path, Passing):
             if not append(self.path, line, inode, length):
                 return False
-        except OSError as error:
-            raise Passing(f"{self.path}: {error.strerror}") from None
         self.first, self.file = first, (inode, length + len(line))
         return True
 

@@ -78,9 +78,8 @@ class Watch:
 
     def lasting_of(self, kind: str) -> list[str]:
         """What was found of this kind, but for tables whose rows are added, or may be."""
-        going, texts = {it for it, why in self.remembered.wanted.items() if not why}, self.texts_of(
-            kind
-        )
+        going = {it for it, why in self.remembered.wanted.items() if not why}
+        texts = self.texts_of(kind)
         if kind == NAMES:
             return texts
         texts = [it for it in texts if going.isdisjoint(self.remembered.found.about(it).tables)]

@@ -14,7 +14,7 @@ import dataclasses
 import os
 
 from pgsub_feed.column_types import TYPES
-from pgsub_feed.errors import Failure, FileError
+from pgsub_feed.errors import Failure, FileError, told_of
 from pgsub_feed.files import NEW, remove
 from pgsub_feed.known_tables import KEYS
 from pgsub_feed.reader.base import base_bytes, base_of_feed, has_base, remove_base, remove_begun
@@ -61,10 +61,8 @@ def read_readers(folder: str) -> dict[str, int]:
 
 def read_lsn(path: str) -> int:
     try:
-        with open(path, encoding="ascii") as file:
+        with told_of(path), open(path, encoding="ascii") as file:
             return parse_lsn(file.read().strip())
-    except OSError as error:
-        raise FileError(f"{path}: {error.strerror}") from None
     except ValueError as error:
         raise FileError(f"{path}: {error}") from None
 

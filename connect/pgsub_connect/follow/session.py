@@ -3,6 +3,7 @@
 import time
 
 from pgsub_feed import log
+from pgsub_feed.interruption import limited
 
 from ..drift.findings import NOTHING, PUBLICATION, About
 from ..errors import ServerError
@@ -76,12 +77,9 @@ class Session:
         room = not self.requests.holds_for_copy() and self.filter.has_room()
         listens, socket = time.monotonic(), connection.socket()
         asked = self.requests.socket.fileno()
-        readable, writable, statuses = self.life.serve(
-            self.schedule.longest_wait(bool(more) and room),
-            [asked, socket] if room else [asked],
-            [socket] if connection.unsent else [],
-            self.schedule.awake(),
-        )
+        wait, awake = self.schedule.longest_wait(bool(more) and room), self.schedule.awake()
+        reads, writes = [asked, socket] if room else [asked], [socket] if connection.unsent else []
+        readable, writable, statuses = self.life.serve(wait, reads, writes, awake)
         # (what else takes long, as a copy of the store does, is none of the server's silence)
         is_heard = socket in readable or not room
         self.silent = 0.0 if is_heard else self.silent + time.monotonic() - listens
@@ -127,13 +125,8 @@ class Session:
     def look_last(self) -> None:
         """Takes the look that is due by now: readers may wait for what it tells of keys."""
         relations, watch = self.noting.relation_log, self.life.watch
-        until = time.monotonic() + LAST
-
-        def check() -> None:
-            self.progress.beat()
-            if time.monotonic() > until:
-                raise ServerError("the server didn't answer in time")
-
+        error = ServerError("the server didn't answer in time")
+        check = limited(LAST, error, self.progress.beat)
         if relations.wants_look:
             is_done = watch.look_again(check, self.confirming.position)
             relations.note_look(not is_done)

@@ -78,7 +78,7 @@ class Snapshots:
     def is_due(self, position: int) -> bool:
         """Whether to copy a store at this position: asked for, or due and newer than the last."""
         self.requests.tend()
-        if self.hold.is_held and not self.hold.is_for_copy():
+        if self.hold.is_held and self.hold.into is None:
             # (a table is being added: copies wait)
             return False
         self.look(position)

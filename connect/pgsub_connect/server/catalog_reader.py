@@ -109,12 +109,9 @@ def read_tables(connection: Connection, names: list[str]) -> dict[int, Table]:
     types = read_column_types(connection, list(tables))
     for oid, it in tables.items():
         typed = ((column, types.get((oid, column.number))) for column in it.columns)
-        tables[oid] = dataclasses.replace(
-            it,
-            primary=tuple(keys.get(oid, ())),
-            indexes=tuple(indexes.get(oid, ())),
-            types=tuple((column, found) for column, found in typed if found),
-        )
+        found = tuple((column, kind) for column, kind in typed if kind)
+        more = {"primary": tuple(keys.get(oid, ())), "indexes": tuple(indexes.get(oid, ()))}
+        tables[oid] = dataclasses.replace(it, types=found, **more)
     return tables
 
 

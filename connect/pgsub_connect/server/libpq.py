@@ -6,7 +6,7 @@ import contextlib
 import ctypes
 import mmap
 import select
-from typing import Any, Protocol
+from typing import Any
 
 import psycopg
 from psycopg import pq
@@ -163,29 +163,59 @@ MADVISE = typed(
 MOVED, PAGE = 1 << 20, mmap.PAGESIZE
 
 
-class Wire(Protocol):
-    """What a session asks of libpq for its messages. Nothing of it waits."""
+class Slow:
+    """What a session asks of libpq for its messages, by psycopg: where it isn't the one over
+    Debian's libpq, or where this is closed. Nothing of it waits."""
+
+    def __init__(self, raw: pq.abc.PGconn) -> None:
+        self.raw = raw
 
     def consume(self) -> bool:
         """Reads what has come on the socket. Returns false where that failed."""
+        try:
+            self.raw.consume_input()
+            return True
+        except psycopg.OperationalError:
+            return False
 
     def take(self, room: int, long: int) -> tuple[list[bytes], int]:
         """Takes payloads of CopyData, as far as there is room for so many bytes, or to the first
         one that is at least so long. Returns beside them what PQgetCopyData returned last."""
+        found, length = list[bytes](), 1
+        while room > 0:
+            try:
+                length, view = self.raw.get_copy_data(1)
+            except psycopg.OperationalError:
+                return found, FAILED
+            if length <= 0:
+                break
+            found.append(bytes(view))
+            room -= length if length < long else room
+        return found, length
 
     def send(self, payload: bytes) -> int:
         """Sends a CopyData, as `flush` does what is there."""
+        try:
+            self.raw.put_copy_data(payload)
+            return self.raw.flush()
+        except psycopg.OperationalError:
+            return FAILED
 
     def flush(self) -> int:
         """Sends as much as the socket takes. Returns 1 where some of it waits, 0 where nothing
         does, and less where that failed."""
+        try:
+            return self.raw.flush()
+        except psycopg.OperationalError:
+            return FAILED
 
 
-class Quick:
+class Quick(Slow):
     """Does so by libpq's own calls. psycopg's way to them by ctypes, which costs as much again, is
     passed by, and what is the same for all messages is made once."""
 
-    def __init__(self, pointer: int) -> None:
+    def __init__(self, raw: pq.abc.PGconn, pointer: int) -> None:
+        super().__init__(raw)
         self.pointer, self.buffer = pointer, ctypes.c_void_p()
         self.place = ctypes.addressof(self.buffer)
 
@@ -229,49 +259,7 @@ def moved(place: int, length: int) -> bytes:
     return whole
 
 
-class Slow:
-    """Does so by psycopg, where it isn't the one over Debian's libpq, or where this is closed."""
-
-    def __init__(self, raw: pq.abc.PGconn) -> None:
-        self.raw = raw
-
-    def consume(self) -> bool:
-        try:
-            self.raw.consume_input()
-            return True
-        except psycopg.OperationalError:
-            return False
-
-    def take(self, room: int, long: int) -> tuple[list[bytes], int]:
-        found, length = list[bytes](), 1
-        while room > 0:
-            try:
-                length, view = self.raw.get_copy_data(1)
-            except psycopg.OperationalError:
-                return found, FAILED
-            if length <= 0:
-                break
-            found.append(bytes(view))
-            room -= length if length < long else room
-        return found, length
-
-    def send(self, payload: bytes) -> int:
-        try:
-            self.raw.put_copy_data(payload)
-            return self.raw.flush()
-        except psycopg.OperationalError:
-            return FAILED
-
-    def flush(self) -> int:
-        try:
-            return self.raw.flush()
-        except psycopg.OperationalError:
-            return FAILED
-
-
-def wire_of(raw: pq.abc.PGconn) -> Wire:
+def wire_of(raw: pq.abc.PGconn) -> Slow:
     """That of an open connection."""
     pointer = getattr(raw, "pgconn_ptr", None) if GET_COPY_DATA else None
-    if pointer is None:
-        return Slow(raw)
-    return Quick(pointer)
+    return Slow(raw) if pointer is None else Quick(raw, pointer)

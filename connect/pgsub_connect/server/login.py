@@ -27,12 +27,8 @@ PRIMARY = 140000
 # The limits that a DSN can give for a host: libpq has none below two seconds, and 0 for none.
 LEAST_LIMIT, MOST_LIMIT = 2.0, 3600.0
 # What a DSN goes before. A lost peer is noticed within about a minute.
-DEFAULTS = {
-    "keepalives_idle": "30",
-    "keepalives_interval": "10",
-    "keepalives_count": "3",
-    "tcp_user_timeout": "60000",
-}
+DEFAULTS = {"keepalives_idle": "30", "keepalives_interval": "10", "keepalives_count": "3"}
+DEFAULTS |= {"tcp_user_timeout": "60000"}
 
 
 def parameters(dsn: str) -> dict[str, str]:

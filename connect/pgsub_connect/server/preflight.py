@@ -101,16 +101,10 @@ def server_facts(connection: Connection, slot: str) -> Facts:
         " (SELECT pg_catalog.count(*) FROM pg_catalog.pg_replication_slots),"
         " (SELECT pg_catalog.count(*) FROM pg_catalog.pg_stat_replication)"
     )[0]
-    return Facts(
-        connection.version(),
-        {name or "": value or "" for name, value in settings},
-        true(standby),
-        database or "",
-        connection.protection,
-        *(int(slots or 0), int(senders or 0)),
-        role_facts(connection),
-        read_slot(connection, slot),
-    )
+    said = {name or "": value or "" for name, value in settings}
+    where = true(standby), database or "", connection.protection
+    more = int(slots or 0), int(senders or 0), role_facts(connection), read_slot(connection, slot)
+    return Facts(connection.version(), said, *where, *more)
 
 
 @understood("the role")

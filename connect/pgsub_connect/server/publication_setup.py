@@ -8,14 +8,13 @@ publication, which ends without effect where one is found.
 
 import dataclasses
 import secrets
-import time
 from collections.abc import Callable, Mapping, Sequence
 from contextlib import closing
 from types import MappingProxyType
 
 from pgsub_feed import log
 from pgsub_feed.errors import Unfit, UsageError
-from pgsub_feed.interruption import Check
+from pgsub_feed.interruption import Check, limited
 from pgsub_feed.texts import counted, identifier, literal
 
 from ..errors import ServerError
@@ -295,15 +294,9 @@ class Maker:
         made, self.made = self.made, {}
         if not made:
             return []
-        until = time.monotonic() + LIMIT
         log.info(f"dropping {', '.join(made)} again, which may take {LIMIT:.0f} seconds")
-
-        def check() -> None:
-            if time.monotonic() > until:
-                raise ServerError("no answer")
-
+        name, check = f"{self.name} publication", limited(LIMIT, ServerError("no answer"))
         try:
-            name = f"{self.name} publication"
             with closing(Connection(self.dsn, name=name, quiet=True, check=check)) as connection:
                 drop_publications(connection, made)
         except (ServerError, Unfit) as error:

@@ -42,17 +42,15 @@ class Subscription:
             yield connection
 
 
-SETTINGS = {
-    **PRINTING,
-    "statement_timeout": "0",
-    "lock_timeout": "0",
-    "idle_in_transaction_session_timeout": "0",
-}
+LIMITS = "statement_timeout", "lock_timeout", "idle_in_transaction_session_timeout"
+SETTINGS = {**PRINTING, **dict.fromkeys(LIMITS, "0")}
 # Settings that came later, by the version that has them first.
 LATER = {"idle_session_timeout": 140000, "transaction_timeout": 170000}
 # The first version of the server that has version 2 of the protocol, and with it streaming, binary
 # values and messages; and the first that aborts transactions in version 1 too.
 STREAMS, ABORTS_IN_VERSION_1 = 140000, 180000
+# The LSN from which a slot `s` sends.
+POSITION = "s.confirmed_flush_lsn - '0/0'::pg_catalog.pg_lsn"
 # A word of synchronous_standby_names, in double quotes or not.
 STANDBY = re.compile(r'"((?:[^"]|"")+)"|([^\s,()"]+)')
 IN_MILLISECONDS = {"ms": 1, "s": 1000, "min": 60_000, "h": 3_600_000, "d": 86_400_000}
@@ -114,9 +112,8 @@ def identify(connection: Connection) -> Server:
 
 def database_oid(connection: Connection) -> int:
     """The OID of the connection's database, which stays when that is renamed."""
-    query = (
-        "SELECT d.oid FROM pg_catalog.pg_database d WHERE d.datname = pg_catalog.current_database()"
-    )
+    here = "d.datname = pg_catalog.current_database()"
+    query = f"SELECT d.oid FROM pg_catalog.pg_database d WHERE {here}"
     return int(connection.value(query, QUICK) or 0)
 
 
@@ -143,16 +140,18 @@ def left_at(connection: Connection, timeline: int, before: int) -> int | None:
     return None
 
 
+def of_slot(columns: str, slot: str) -> str:
+    """A query for what the server says of a slot."""
+    slots = "pg_catalog.pg_replication_slots"
+    return f"SELECT {columns} FROM {slots} s WHERE s.slot_name = {literal(slot)}"
+
+
 @understood("a slot")
 def slot_position(connection: Connection, slot: str) -> int | None:
     """The LSN from which the slot sends; None where there is no such slot."""
     two_phase = "s.two_phase" if connection.version() >= STREAMS else "false"
-    rows = connection.rows(
-        f"SELECT s.plugin, s.database = pg_catalog.current_database(), {two_phase},"
-        " s.confirmed_flush_lsn - '0/0'::pg_catalog.pg_lsn"
-        f" FROM pg_catalog.pg_replication_slots s WHERE s.slot_name = {literal(slot)}",
-        QUICK,
-    )
+    columns = f"s.plugin, s.database = pg_catalog.current_database(), {two_phase}, {POSITION}"
+    rows = connection.rows(of_slot(columns, slot), QUICK)
     if not rows:
         return None
     plugin, is_ours, is_two_phase, position = rows[0]
@@ -168,10 +167,8 @@ def slot_position(connection: Connection, slot: str) -> int | None:
 
 def other_slot(connection: Connection, slot: str) -> Unfit:
     """What is wrong with a slot of another plugin or database, and what to name."""
-    plugin, database, here = connection.rows(
-        "SELECT s.plugin, s.database, pg_catalog.current_database() FROM pg_catalog.pg_replication_slots s"
-        f" WHERE s.slot_name = {literal(slot)}"
-    )[0]
+    query = of_slot("s.plugin, s.database, pg_catalog.current_database()", slot)
+    plugin, database, here = connection.rows(query)[0]
     if plugin != "pgoutput":
         kind = f"of the plugin {plugin}" if plugin else "a physical one"
         text = f"the slot {slot} is {kind}, and not one of pgoutput: name another one by --slot"
@@ -183,7 +180,7 @@ def other_slot(connection: Connection, slot: str) -> Unfit:
 
 def is_lost(connection: Connection, slot: str) -> bool:
     """Whether the server has removed log that the slot needs, so that it can't be read."""
-    query = f"SELECT s.wal_status FROM pg_catalog.pg_replication_slots s WHERE s.slot_name = {literal(slot)}"
+    query = of_slot("s.wal_status", slot)
     return connection.version() >= 130000 and connection.value(query, QUICK) == "lost"
 
 

@@ -3,11 +3,11 @@
 import dataclasses
 import time
 
-from pgsub_feed.texts import literal, lsn_text
+from pgsub_feed.texts import lsn_text
 
 from ..errors import LostSlot, ServerError, understood
 from .connection import QUICK, Connection
-from .session import is_lost
+from .session import is_lost, of_slot
 
 # The columns that came later, by the version that has them first.
 COLUMNS = {
@@ -50,10 +50,8 @@ def read_slot(connection: Connection, name: str) -> Slot | None:
     """The slot of this name, where there is one."""
     version = connection.version()
     columns = [it if version >= since else "NULL" for it, since in COLUMNS.items()]
-    rows = connection.rows(
-        f"SELECT s.plugin, s.database = pg_catalog.current_database(), s.active, {', '.join(columns)}"
-        f" FROM pg_catalog.pg_replication_slots s WHERE s.slot_name = {literal(name)}"
-    )
+    here = "s.database = pg_catalog.current_database()"
+    rows = connection.rows(of_slot(f"s.plugin, {here}, s.active, {', '.join(columns)}", name))
     if not rows:
         return None
     plugin, here, active, two_phase, status, size, failover, why = rows[0]
@@ -89,10 +87,7 @@ def lost_error(connection: Connection, slot: str, store: str, error: ServerError
     """What a start of replication has ended with, with its cure where the slot is lost."""
     if not is_lost(connection, slot):
         return error
-    query = (
-        "SELECT s.invalidation_reason FROM pg_catalog.pg_replication_slots s"
-        f" WHERE s.slot_name = {literal(slot)}"
-    )
+    query = of_slot("s.invalidation_reason", slot)
     reason = connection.value(query, QUICK) if connection.version() >= REASONS else None
     why = WHY.get(reason or "", reason) or WHY[""]
     text = f"the slot {slot} is lost: {why}. Nothing can follow from it: {anew(store)}"

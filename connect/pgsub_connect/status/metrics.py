@@ -62,15 +62,12 @@ Told = Iterable[tuple[str, str, Value] | tuple[str, str, Value, str]]
 def of_stream(it: StreamCounters, now: float) -> Told:
     message, commit = "pgsub_last_message_timestamp_seconds", "pgsub_last_commit_timestamp_seconds"
     age = "At most how old the oldest commit is that the copy lacks."
+    complete = "LSN up to which the copy is complete and confirmed."
     return (
         (message, "When the server's last message came.", it.last_message),
         (commit, "Commit time of the last commit that is confirmed.", it.lag.last_commit),
         ("pgsub_position_lsn", "End of the last commit that the store has.", it.position),
-        (
-            "pgsub_confirmed_lsn",
-            "LSN up to which the copy is complete and confirmed.",
-            it.confirmed,
-        ),
+        ("pgsub_confirmed_lsn", complete, it.confirmed),
         ("pgsub_server_end_lsn", "Where the server's log ends.", it.server_end() or None),
         ("pgsub_lag_bytes", "How much of the server's log the copy lacks.", it.lag_bytes()),
         ("pgsub_lag_seconds", age, it.lag.seconds(now)),

@@ -143,12 +143,10 @@ class Checkpoint:
         if len(line) >= SIZE:
             text = f"{self.path}: {len(line)} bytes are too long for a checkpoint: `--accept` what was found, or copy anew"
             raise FileError(text)
-        try:
+        with told_of(self.path, Passing):
             os.pwrite(self.file, padded(line), at * SIZE)
             if durably:
                 os.fdatasync(self.file)
-        except OSError as error:
-            raise Passing(f"{self.path}: {error.strerror}") from None
         self.number, self.counted = self.number + 1, counted
         self.durable = at if durably else self.durable
 

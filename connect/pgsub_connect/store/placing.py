@@ -16,16 +16,8 @@ from .socket_file import SUFFIX
 LEFT = ".left"
 # What follows a store's name in those of its files, the checkpoint last, by which a start tells.
 OF_STORE = (
-    NEW,
-    *OF_FILE[1:],
-    "",
-    SUFFIX,
-    REPEATS,
-    LEFT + ".new",
-    LEFT,
-    ".tables.new",
-    ".tables",
-    ".connector",
+    *(NEW, *OF_FILE[1:], "", SUFFIX, REPEATS),
+    *(LEFT + ".new", LEFT, ".tables.new", ".tables", ".connector"),
 )
 Identity = str | tuple[int, int]
 

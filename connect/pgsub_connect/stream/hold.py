@@ -130,10 +130,6 @@ class Hold:
         """Whether nothing may be passed on now."""
         return self.is_held and (self.is_there or self.is_at_gate or self.limit() is None)
 
-    def is_for_copy(self) -> bool:
-        """Whether it is held for a copy that somebody has asked for."""
-        return self.into is not None
-
     def is_due(self) -> bool:
         """Whether the copy is to be taken once all that was passed on is stored."""
         return self.is_there and not self.is_copied

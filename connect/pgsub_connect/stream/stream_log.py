@@ -86,9 +86,8 @@ class RelationLog:
             elif (relation := messages.relation_of(body)) is not None:
                 self.compared[oid] = body
                 # (those that read a feed wait for what the catalog says of its types)
-                self.wants_look |= bool(self.remembered.feed) and self.remembered.is_altered(
-                    relation
-                )
+                is_new = bool(self.remembered.feed) and self.remembered.is_altered(relation)
+                self.wants_look |= is_new
                 self.remembered.note(relation, lsn, last)
 
 
@@ -190,22 +189,14 @@ class Noting:
 
     def note_other(self, letter: int, payload: bytes) -> None:
         if letter == RELATION:
-            self.note_relation(payload)
+            # (kept until its commit, as one object where it was there before)
+            maker, body = payload[26:30] if self.current else b"", payload[self.end - 4 :]
+            self.relations.add(maker, self.relation_log.last_of(body))
         elif letter == TRUNCATE:
-            self.note_truncate(payload)
+            head = TRUNCATED + payload[26 : self.end - 4]
+            count_truncates(self.counts, head, payload, self.end + 1, self.is_met)
         elif letter in (messages.START, messages.STOP, messages.STREAM_COMMIT, messages.ABORT):
             self.note_block(letter, payload)
-
-    def note_relation(self, payload: bytes) -> None:
-        """Keeps a Relation message until its commit, as one object where it was there before."""
-        body = payload[self.end - 4 :]
-        maker = payload[26:30] if self.current else b""
-        self.relations.add(maker, self.relation_log.last_of(body))
-
-    def note_truncate(self, payload: bytes) -> None:
-        count_truncates(
-            self.counts, TRUNCATED + payload[26 : self.end - 4], payload, self.end + 1, self.is_met
-        )
 
     def is_met(self, oid: int) -> bool:
         """Whether a table is known, or described by what has come."""
