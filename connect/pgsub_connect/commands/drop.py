@@ -26,7 +26,7 @@ from ..errors import understood
 from ..follow.retention import remove_feed
 from ..server.connection import Connection
 from ..server.libpq import TICK
-from ..server.publication_content import drop_publication, oid_of, other_slots
+from ..server.publications import drop_publication, oid_of, other_slots
 from ..server.publication_setup import inserts_of
 from ..server import session
 from ..server.session import Subscription, database_oid, is_same_database, of_slot, other_slot

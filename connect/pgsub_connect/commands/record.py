@@ -9,14 +9,7 @@ from pgsub_feed.program import stop_by_signals
 
 from ..copy.slots import create_slot, maker_of
 from ..record import RecordSettings, Recorder, Recording
-from .arguments import words
-from .arguments.server import (
-    PublishingOptions,
-    ServerOptions,
-    check_creates,
-    check_publishing,
-    settled_server,
-)
+from .arguments import server, words
 from .arguments.session import longest
 from .arguments.words import any_seconds, check_files, check_needs, each, lsn_or_now, within
 
@@ -25,7 +18,7 @@ ENDS = words.ENDS
 
 
 @dataclasses.dataclass(frozen=True)
-class Options(ServerOptions, PublishingOptions):
+class Options(server.ServerOptions, server.PublishingOptions):
     """What is recorded, and where it begins and ends."""
 
     record: str = file(
@@ -68,29 +61,29 @@ class Options(ServerOptions, PublishingOptions):
 
 
 def add_options(parser: argparse.ArgumentParser) -> None:
-    add_fields(parser.add_argument, ServerOptions)
+    add_fields(parser.add_argument, server.ServerOptions)
     add = parser.add_argument_group("recording").add_argument
-    add_fields(add, Options, without=(ServerOptions, PublishingOptions))
+    add_fields(add, Options, without=Options.__bases__)
     add = parser.add_argument_group("publication and slot").add_argument
-    add_fields(add, Options, PublishingOptions)
+    add_fields(add, Options, server.PublishingOptions)
 
 
 def check_options(parser: argparse.ArgumentParser, options: Options) -> Options:
     """Rejects options that don't go together."""
-    check_creates(parser, options)
+    server.check_creates(parser, options)
     check_needs(parser, options, ("append", "record"))
     if not options.record:
         parser.error("--record is needed")
     if options.streaming and options.proto != 2:
         parser.error("--streaming needs --proto 2")
-    check_publishing(parser, options)
+    server.check_publishing(parser, options)
     return options
 
 
 def settled(options: Options) -> Options:
     check_files("", {"--record": options.record}, {"--dsn-file": options.dsn_file})
     told = each("--table", options.table)
-    return settled_server(options, keyless=options.keyless, told=told)
+    return server.settled_server(options, keyless=options.keyless, told=told)
 
 
 def run(options: Options, _: Check) -> int:

@@ -31,7 +31,6 @@ from pgsub_feed.texts import counted, lsn_text
 from ..drift.remembered import Remembered
 from ..errors import ServerError
 from ..preconditions import require, require_reading
-from ..server import transport
 from ..server.connection import Connection
 from ..server.publication_setup import Wanted
 from ..server.publications import estimated_rows, stored_in
@@ -40,6 +39,7 @@ from ..server.waits import Waiting, lock_text
 from ..status.progress import Progress
 from ..store.checkpoint import Checkpoint
 from ..store.checkpoint_lines import COPIED, COPYING, SLOT
+from ..stream.common import note_server
 from ..stream.filter import Filter
 from ..stream.filter_end import FilterEnded
 from ..stream.memory_limit import BufferLimits, limit_text
@@ -216,15 +216,7 @@ class Copier(Worker):
         require(replication, self.subscription.slot, True, *wanted)
         self.clear()
         self.checkpoint.begin_anew()
-        self.checkpoint.write(
-            True,
-            phase=COPYING,
-            system=server.system,
-            timeline=server.timeline,
-            database=server.database,
-            slot=self.subscription.slot,
-            encrypted=transport.OWN.was_encrypted,
-        )
+        note_server(self.checkpoint, server, self.subscription.slot, phase=COPYING)
         self.maker.make()
         self.subscription.note_publications(self.maker.publications)
         with self.subscription.connected("copy", self.slot.check_all) as plain:

@@ -12,7 +12,7 @@ from ..errors import ServerError, understood
 from ..preconditions import require
 from ..server.catalog_reader import read_catalog
 from ..server.connection import QUICK, Connection
-from ..server.publication_content import has_publication
+from ..server.publications import has_publication
 from ..server.publication_setup import Look, Maker, Wanted
 from ..server.session import Subscription, of_slot, settle, settle_for_slot, slot_position
 from ..server.waits import Waiting

@@ -16,13 +16,7 @@ from pgsub_feed.relation import Column, Shape
 
 from ..server.catalog import ACTIONS, Catalog, Part, Partition, Publication, Table
 from .findings import PUBLICATION, VALUES, About, Difference
-from .partition_differences import (
-    UNLOGGED,
-    is_made_in,
-    logging_differences,
-    partition_differences,
-    root_of,
-)
+from .partition_differences import UNLOGGED, is_made_in, of_logging, partition_differences, root_of
 
 # How many columns, labels and the like a text names.
 NAMED = 20
@@ -166,7 +160,7 @@ def altered_differences(
 ) -> Iterator[Difference]:
     """Those of a table that is there in both readings."""
     table, about = f"table {new.text_with_oid()}", About((oid,))
-    yield from logging_differences(table, (oid,), old.logged, new.logged)
+    yield from of_logging(table, (oid,), old.logged, new.logged)
     told = []
     for name in sorted(old.parts.keys() & new.parts.keys()):
         if old.parts[name].listed != new.parts[name].listed:

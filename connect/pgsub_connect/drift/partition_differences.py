@@ -9,9 +9,7 @@ from .findings import PUBLICATION, About, Difference
 UNLOGGED = "Its changes are in no log, so its rows aren't in the copy"
 
 
-def logging_differences(
-    name: str, tables: tuple[int, ...], old: bool, new: bool
-) -> Iterator[Difference]:
+def of_logging(name: str, tables: tuple[int, ...], old: bool, new: bool) -> Iterator[Difference]:
     """Whether changes are in the log, of what its rows were copied or not."""
     if old and not new:
         text = f"{name} is unlogged now: its changes aren't sent, and the rows that it had stay as they were"
@@ -70,7 +68,7 @@ def partition_differences(before: Catalog, now: Catalog) -> Iterator[Difference]
         if was == root and was in now.tables:
             old, new = before.partitions[oid], now.partitions[oid]
             partition = f"partition {new.name} ({oid}) of {now.tables[root].text_with_oid()}"
-            yield from logging_differences(partition, (root,), old.logged, new.logged)
+            yield from of_logging(partition, (root,), old.logged, new.logged)
     yield from truncations(before, now)
     yield from dict.fromkeys(detachments(before, now))
 

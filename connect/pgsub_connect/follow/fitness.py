@@ -6,19 +6,21 @@ Unfit. A history or a slot that doesn't fit is a finding, too. The position is e
 the store: the end of its last commit.
 """
 
+import dataclasses
+
 from pgsub_feed import log
 from pgsub_feed.errors import Unfit
 from pgsub_feed.interruption import Check
 from pgsub_feed.texts import lsn_text
 
 from ..errors import ServerError
-from ..server import transport
 from ..server.connection import Connection
-from ..server.publication_content import has_publication
+from ..server.publications import has_publication
 from ..server.publication_setup import refusal
 from ..server.session import Server, is_same_database, left_at, slot_position
 from ..store.checkpoint import check_gap
 from ..store.checkpoint_lines import FOLLOWING, NEW
+from ..stream.common import note_server
 from .drift_watch import Watch
 
 
@@ -165,19 +167,12 @@ class Fitting:
         if text := remembered.note_database(server.database_oid, server.database):
             log.warning(text)
         # (a feed keeps the name that it has begun with)
-        database = known.database if known.database and remembered.feed else server.database
-        self.checkpoint.write(
-            True,
-            confirmed=max(confirmed, known.confirmed),
-            phase=FOLLOWING,
-            system=server.system,
-            timeline=server.timeline,
-            started=server.started,
-            database=database,
-            slot=self.subscription.slot,
-            position=max(position, known.position),
-            encrypted=transport.OWN.was_encrypted,
-        )
+        if known.database and remembered.feed:
+            server = dataclasses.replace(server, database=known.database)
+        most = max(confirmed, known.confirmed), max(position, known.position)
+        more = {"phase": FOLLOWING, "started": server.started}
+        more |= {"confirmed": most[0], "position": most[1]}
+        note_server(self.checkpoint, server, self.subscription.slot, **more)
 
     def check_slot(self, position: int, check: Check) -> None:
         """Checks the slot again once it is ours: somebody may have confirmed more meanwhile."""

@@ -12,9 +12,8 @@ from pgsub_feed.texts import literal
 
 from ..errors import ServerError, understood
 from .connection import Connection
-from .publication_content import has_publication, kinds_left_out
 from .publication_setup import REFUSED, Wanted, names_of
-from .publications import NAME, meant_table
+from .publications import NAME, has_publication, kinds_left_out, meant_table
 from .replica_identity import keyless_of, keyless_tables, members, publishable, tree_of
 from .session import Subscription, settle
 from .slot import Slot, read_slot

@@ -18,18 +18,8 @@ from pgsub_feed.interruption import Check, limited
 from pgsub_feed.texts import counted, identifier, literal
 
 from ..errors import ServerError
+from . import publications
 from .connection import Connection
-from .publication_content import (
-    Listed,
-    content_of,
-    drop_publications,
-    has_publication,
-    kinds_left_out,
-    listed_above,
-    oid_of,
-    other_slots,
-)
-from .publications import meant_table
 from .replica_identity import keyless_tables, publishable_tables, rejected_tables
 from .waits import Waiting, lock_text
 
@@ -131,15 +121,15 @@ class Maker:
         names = [it for name in self.wanted.publications for it in (name, inserts_of(name))]
         known, made = self.left, self.made
         names = [it for it in names if it in known and made.get(it) != known[it]]
-        left = [it for it in names if known[it] == oid_of(connection, it)]
+        left = [it for it in names if known[it] == publications.oid_of(connection, it)]
         is_kept = self.wanted.keeps or self.is_standby
-        if left and not is_kept and not other_slots(connection, self.name):
+        if left and not is_kept and not publications.other_slots(connection, self.name):
             connection.run(f"DROP PUBLICATION {', '.join(map(identifier, left))}")
             log.info(f"an earlier run has left the publication {names_of(left)}: it is made anew")
 
     def see_to(self, name: str, before: dict[str, int]) -> None:
         """Makes a publication, unless it is there: by an attempt before, or by somebody else."""
-        oid, second = oid_of(self.connection, name), inserts_of(name)
+        oid, second = publications.oid_of(self.connection, name), inserts_of(name)
         if not oid and self.wanted.keeps:
             raise refusal(f"there is no publication {name} any more: make it, or say --create")
         if not oid:
@@ -167,7 +157,7 @@ class Maker:
         lacks. The transaction is over."""
         if error.sqlstate == NO_TABLE and self.wanted.tables:
             self.connection.run("ROLLBACK")
-            texts = [meant_table(self.connection, it) for it in self.wanted.tables]
+            texts = [publications.meant_table(self.connection, it) for it in self.wanted.tables]
             return ServerError(f"{error}{next(filter(None, texts), '')}", NO_TABLE)
         if error.sqlstate == NO_RIGHT:
             text = f"{error}: `pgsub-connect check` with these options tells which rights the role lacks"
@@ -189,7 +179,7 @@ class Maker:
             raise refusal(
                 "there are no tables that can be published: make some, or say --all-tables for those that come later"
             )
-        self.begun[name] = oid_of(connection, name)
+        self.begun[name] = publications.oid_of(connection, name)
         keyless = self.keyless_in(name)
         if keyless and wanted.keyless != "refuse" and not wanted.all_tables:
             keyless = self.move_keyless(name, keyless)
@@ -200,16 +190,18 @@ class Maker:
         """Takes the tables without an identity out of the publication, into one of their own where
         wanted. Returns those that stay."""
         connection = self.connection
-        listed = listed_above(connection, name, list(keyless))
+        listed = publications.listed_above(connection, name, list(keyless))
         if not listed:
             return keyless
-        count, names = len(content_of(connection, name)), names_of([it.text for it in listed])
+        count, names = len(publications.content_of(connection, name)), names_of(
+            [it.text for it in listed]
+        )
         self.drop_tables(name, listed)
         if self.wanted.keyless == "inserts":
             second = inserts_of(name)
             tables = ", ".join(f"ONLY {it.whole}" for it in listed)
             self.create(second, f"TABLE {tables}", f" WITH (publish = {literal(INSERTS)})")
-            self.begun[second] = oid_of(connection, second)
+            self.begun[second] = publications.oid_of(connection, second)
             self.publications.insert(self.publications.index(name) + 1, second)
             self.said.append(
                 f"without a replica identity, so published for Inserts and TRUNCATE alone: {names}"
@@ -228,7 +220,7 @@ class Maker:
         connection = self.connection
         return {**rejected_tables(connection, name), **keyless_tables(connection, name)}
 
-    def drop_tables(self, name: str, listed: list[Listed]) -> None:
+    def drop_tables(self, name: str, listed: list[publications.Listed]) -> None:
         names = ", ".join(it.name for it in listed)
         self.connection.run(f"ALTER PUBLICATION {identifier(name)} DROP TABLE {names}")
 
@@ -236,11 +228,11 @@ class Maker:
         """Rejects a publication that is there and isn't what is wanted."""
         self.note_left_out(name)
         connection, wanted = self.connection, self.wanted
-        there, second = content_of(connection, name), inserts_of(name)
+        there, second = publications.content_of(connection, name), inserts_of(name)
         is_wanted = wanted.keyless == "inserts" and second not in self.publications
-        if is_wanted and has_publication(connection, second):
+        if is_wanted and publications.has_publication(connection, second):
             self.publications.insert(self.publications.index(name) + 1, second)
-            there |= content_of(connection, second)
+            there |= publications.content_of(connection, second)
         if wanted.all_tables and "all tables" not in there:
             text = f"the publication {name} is there, and isn't one for all tables: drop it, or leave --all-tables out"
             raise refusal(text)
@@ -263,7 +255,7 @@ class Maker:
     def note_left_out(self, name: str) -> None:
         """Says what a publication that is there leaves out, and which tables it harms."""
         connection = self.connection
-        left_out = kinds_left_out(connection, name)
+        left_out = publications.kinds_left_out(connection, name)
         if left_out and not name.endswith(inserts_of("")):
             self.said.append(f"the publication {name} leaves out: {', '.join(left_out)}")
         has_all = not {"update", "delete"} <= set(left_out)
@@ -281,10 +273,14 @@ class Maker:
         except ServerError as error:
             text = f"the publication {name} is there, and --table can't be compared with it: {error}. Leave --table out"
             raise ServerError(text, error.sqlstate and REFUSED) from None
-        asked, keyless, left_out = content_of(connection, trial), self.keyless_in(trial), set[str]()
-        if keyless and (listed := listed_above(connection, trial, list(keyless))):
+        asked, keyless, left_out = (
+            publications.content_of(connection, trial),
+            self.keyless_in(trial),
+            set[str](),
+        )
+        if keyless and (listed := publications.listed_above(connection, trial, list(keyless))):
             self.drop_tables(trial, listed)
-            left_out = asked - content_of(connection, trial)
+            left_out = asked - publications.content_of(connection, trial)
         connection.run("ROLLBACK TO SAVEPOINT trial")
         return asked, left_out
 
@@ -298,7 +294,7 @@ class Maker:
         name, check = f"{self.name} publication", limited(LIMIT, ServerError("no answer"))
         try:
             with closing(Connection(self.dsn, name=name, quiet=True, check=check)) as connection:
-                drop_publications(connection, made)
+                publications.drop_publications(connection, made)
         except (ServerError, Unfit) as error:
             log.warning(
                 f"made and not dropped again, {error}: {', '.join(f'DROP PUBLICATION {identifier(it)}' for it in made)}"

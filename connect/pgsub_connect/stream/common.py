@@ -1,11 +1,12 @@
 """What all parts of a follower have, handed over as one, and the findings taken as they are."""
 
 from collections.abc import Iterable
-from typing import NamedTuple
+from typing import Any, NamedTuple
 
 from ..drift.findings import RULE, UNWATCHED
 from ..drift.remembered import Remembered
-from ..server.session import Subscription
+from ..server import transport
+from ..server.session import Server, Subscription
 from ..status.progress import Progress
 from ..store.checkpoint import Checkpoint
 
@@ -38,6 +39,12 @@ class Tolerance:
     def end(self) -> None:
         """Nothing is accepted from now on."""
         self.kinds = frozenset()
+
+
+def note_server(checkpoint: Checkpoint, server: Server, slot: str, **more: Any) -> None:
+    """Notes durably whose changes a store has, and how they come."""
+    told = {"system": server.system, "timeline": server.timeline, "database": server.database}
+    checkpoint.write(True, **told, slot=slot, encrypted=transport.OWN.was_encrypted, **more)
 
 
 class Common(NamedTuple):
