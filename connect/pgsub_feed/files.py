@@ -86,12 +86,9 @@ def own_name(path: str) -> str:
         found = pattern.fullmatch(entry.name)
         # (a number may be none of a process)
         with contextlib.suppress(OSError, OverflowError):
-            if (
-                found
-                and not is_alive(int(found[1]))
-                and time.time() - entry.stat().st_mtime > STALE
-            ):
-                os.unlink(entry.path)
+            if found and not is_alive(int(found[1])):
+                if time.time() - entry.stat().st_mtime > STALE:
+                    os.unlink(entry.path)
     return f"{path}.pgsub-{os.getpid()}"
 
 

@@ -69,10 +69,8 @@ def form_of(kind: Any) -> Form:
 
 def form_of_maybe(form: Form) -> Form:
     read, written = form
-    return Form(
-        lambda it: None if it is None else read(it),
-        lambda it: None if it is None else written(it),
-    )
+    known: Callable[[Any], Any] = lambda it: None if it is None else written(it)
+    return Form(lambda it: None if it is None else read(it), known)
 
 
 def form_of_dict(key: Form, value: Form) -> Form:
@@ -110,6 +108,7 @@ def form_of_object(kind: Callable[..., Any], forms: dict[str, Form]) -> Form:
             raise Unreadable(f"there is no {min(missing)}")
         return kind(**{name: form.read(said[name]) for name, form in forms.items()})
 
-    return Form(
-        read, lambda it: {name: form.written(getattr(it, name)) for name, form in forms.items()}
-    )
+    def written(it: Any) -> Any:
+        return {name: form.written(getattr(it, name)) for name, form in forms.items()}
+
+    return Form(read, written)

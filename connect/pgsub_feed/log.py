@@ -126,9 +126,8 @@ class Meter:
 
     def text(self, done: int, total: int | None) -> str:
         """How much is done, how fast, and how long the rest takes by that."""
-        return progress_text(
-            done, total, (done - self.first) / max(time.monotonic() - self.began, 0.1), self.unit
-        )
+        rate = (done - self.first) / max(time.monotonic() - self.began, 0.1)
+        return progress_text(done, total, rate, self.unit)
 
 
 def progress_text(done: int, total: int | None, rate: float, unit: str = "rows") -> str:

@@ -51,10 +51,8 @@ def target_of(path: str) -> str | None:
         # (not there; or whoever opens it is told why it can't be looked at)
         return None
     if target is not None and about.st_uid not in (0, os.geteuid()):
-        raise FileError(
-            f"{path}: a link of another account ({about.st_uid}) isn't followed: name the file"
-            " that is meant, in a folder that others can't write"
-        )
+        text = f"{path}: a link of another account ({about.st_uid}) isn't followed"
+        raise FileError(f"{text}: name the file that is meant, in a folder that others can't write")
     return target
 
 

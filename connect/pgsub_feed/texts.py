@@ -21,11 +21,8 @@ PRINTING = {
 def parse_lsn(text: str) -> int:
     """The LSN that a text as `16/B374D848` is. A ValueError says that it is none."""
     high, _, low = text.partition("/")
-    if not (
-        1 <= len(high) <= 8
-        and 1 <= len(low) <= 8
-        and all(it in "0123456789abcdefABCDEF" for it in high + low)
-    ):
+    are_short = 1 <= len(high) <= 8 and 1 <= len(low) <= 8
+    if not are_short or any(it not in "0123456789abcdefABCDEF" for it in high + low):
         raise ValueError(f"{text!r} is not an LSN, as 16/B374D848")
     return (int(high, 16) << 32) + int(low, 16)
 

@@ -584,8 +584,8 @@ BUGS = (
     Bug(
         "the last byte of the longest payloads is lost",
         "pgsub_connect/stream/messages.py",
-        'head = pack_header(b"d", length + 4)',
-        'head = pack_header(b"d", min(length, 60000) + 4)',
+        'struct.pack(">ci", b"d", length + 4)',
+        'struct.pack(">ci", b"d", min(length, 60000) + 4)',
         ("test_passing",),
     ),
     Bug(

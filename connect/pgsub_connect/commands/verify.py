@@ -10,7 +10,7 @@ from pgsub_feed import log
 from pgsub_feed.errors import FileError, Passing, Stopped, Unfit
 from pgsub_feed.interruption import Check
 from pgsub_feed.options import file, flag, option, repeated
-from pgsub_feed.tables.values import Malformed
+from pgsub_feed.tables.values import SPOILED, Malformed
 
 from ..errors import Unrepaired
 from ..verify.comparison import DIFFERENT, EQUAL, Compared
@@ -92,9 +92,7 @@ def run(options: Options, check: Check) -> int:
         text = f"{options.store}: it has values in binary form, which can't be compared"
         raise Unfit(text) from None
     except Malformed:
-        raise FileError(
-            f"{options.store}: a malformed row or definition: the disk, or another program, has spoiled the file"
-        ) from None
+        raise FileError(f"{options.store}: {SPOILED}") from None
     except sqlite3.Error as error:
         raise FileError(f"{options.store}: {error}") from None
 

@@ -9,7 +9,7 @@ import struct
 from collections.abc import Iterator, Sequence
 
 from ..server.catalog import Table
-from ..server.copied_text import KEPT, NULL, put_cells
+from ..server.copied_text import NULL, Heads, put_cells
 
 Frame = bytes | memoryview
 # The letters of the payloads, and what a frame has before its payload's rest.
@@ -63,20 +63,17 @@ def delete(oid: int, kind: bytes, row: Sequence[bytes | None]) -> bytes:
     return struct.pack(">cIc", b"D", oid, kind) + cells(row)
 
 
-class InsertHeads(dict[int, bytes]):
+class InsertHeads(Heads):
     """What comes before the cells of a row in a transaction, by the length of all cells."""
 
     def __init__(self, table: Table, lsn: int) -> None:
-        super().__init__()
+        super().__init__(self.head_of)
         self.lsn, self.width = lsn, len(table.columns)
         self.insert = struct.pack(">cIcH", b"I", table.oid, b"N", self.width)
 
-    def __missing__(self, length: int) -> bytes:
+    def head_of(self, length: int) -> bytes:
         size = 29 + len(self.insert) + length
-        head = struct.pack(">cIcQQq", b"d", size, b"w", self.lsn, self.lsn, 0) + self.insert
-        if length < KEPT:
-            self[length] = head
-        return head
+        return struct.pack(">cIcQQq", b"d", size, b"w", self.lsn, self.lsn, 0) + self.insert
 
 
 def cells_length(line: bytes, width: int) -> int:

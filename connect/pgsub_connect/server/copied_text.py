@@ -7,27 +7,33 @@ values come as `\\t` and `\\n`.
 
 import re
 import struct
+from collections.abc import Callable
 
 from ..errors import WrongAnswer
 
 NULL = b"\\N"
 ESCAPES = {b"\\b": b"\b", b"\\f": b"\f", b"\\n": b"\n", b"\\r": b"\r", b"\\t": b"\t", b"\\v": b"\v"}
 OTHER = re.compile(rb"\\(.)", re.S)
-# the heads of cells up to this length are kept
+# The heads of what is no longer than this are kept.
 KEPT = 1 << 12
 
 
-class CellHeads(dict[int, bytes]):
-    """What comes before a value, by the value's length."""
+class Heads(dict[int, bytes]):
+    """What comes before something, by its length."""
+
+    def __init__(self, make: Callable[[int], bytes]) -> None:
+        super().__init__()
+        self.make = make
 
     def __missing__(self, length: int) -> bytes:
-        head = struct.pack(">cI", b"t", length)
+        head = self.make(length)
         if length < KEPT:
             self[length] = head
         return head
 
 
-CELL_HEADS = CellHeads()
+# Those of values.
+CELL_HEADS = Heads(lambda length: struct.pack(">cI", b"t", length))
 
 
 def unescaped(text: bytes) -> bytes:

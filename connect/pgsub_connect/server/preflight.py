@@ -101,9 +101,9 @@ def server_facts(connection: Connection, slot: str) -> Facts:
         " (SELECT pg_catalog.count(*) FROM pg_catalog.pg_stat_replication)"
     )[0]
     said = {name or "": value or "" for name, value in settings}
-    where = true(standby), database or "", connection.protection
-    more = int(slots or 0), int(senders or 0), role_facts(connection), read_slot(connection, slot)
-    return Facts(connection.version(), said, *where, *more)
+    more = true(standby), database or "", connection.protection, int(slots or 0), int(senders or 0)
+    role, known = role_facts(connection), read_slot(connection, slot)
+    return Facts(connection.version(), said, *more, role, known)
 
 
 @understood("the role")

@@ -50,8 +50,8 @@ def read_slot(connection: Connection, name: str) -> Slot | None:
     """The slot of this name, where there is one."""
     version = connection.version()
     columns = [it if version >= since else "NULL" for it, since in COLUMNS.items()]
-    here = "s.database = pg_catalog.current_database()"
-    rows = connection.rows(of_slot(f"s.plugin, {here}, s.active, {', '.join(columns)}", name))
+    ours = "s.database = pg_catalog.current_database()"
+    rows = connection.rows(of_slot(f"s.plugin, {ours}, s.active, {', '.join(columns)}", name))
     if not rows:
         return None
     plugin, here, active, two_phase, status, size, failover, why = rows[0]

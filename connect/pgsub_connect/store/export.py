@@ -26,7 +26,7 @@ from pgsub_feed.tables.names import OLD, POSITION, TABLES, name_tables, names_of
 from pgsub_feed.tables.schema import RELATIONS, SCHEMA, definition
 from pgsub_feed.tables.sqlite_files import EXPORT as APPLICATION, check_sqlite, failed, is_export
 from pgsub_feed.tables.target import Target, key_index, unlike_reason
-from pgsub_feed.tables.values import BOTH, Malformed, Unlike, Value
+from pgsub_feed.tables.values import BOTH, SPOILED, Malformed, Unlike, Value
 from pgsub_feed.texts import counted, identifier, lsn_text
 
 from ..drift.remembered import Remembered
@@ -247,8 +247,7 @@ def export(path: str, new: str, settings: ExportSettings, check: Check) -> tuple
             held = store.execute("SELECT oid, body, copies FROM held NOT INDEXED")
             return made.run(remembered, read_position(store), read_relations(store), held)
     except Malformed:
-        text = f"{settings.store}: a malformed row or definition: the disk, or another program, has spoiled the file"
-        raise FileError(text) from None
+        raise FileError(f"{settings.store}: {SPOILED}") from None
     except sqlite3.Error as error:
         # (the end may have been asked for)
         check()

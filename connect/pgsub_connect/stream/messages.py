@@ -9,6 +9,8 @@ import struct
 
 from pgsub_feed.relation import Column, Relation, Shape
 
+from ..server.copied_text import Heads
+
 BEGIN, COMMIT, RELATION, TRUNCATE = b"BCRT"
 START, STOP, STREAM_COMMIT, ABORT = b"SEcA"
 CHANGES = b"IUD"
@@ -68,8 +70,6 @@ def relation_of(body: bytes) -> Relation | None:
 STATUS = 39
 STATUS_HEAD = b"d\x00\x00\x00\x26r"
 COPY_DONE = b"c\x00\x00\x00\x04"
-# The headers of payloads up to this length are kept.
-KEPT_HEADERS = 1 << 12
 
 
 def flushed(payload: bytes) -> int:
@@ -92,22 +92,9 @@ def asking(payload: bytes) -> bytes:
     return payload[:-1] + b"\x01"
 
 
-pack_header = struct.Struct(">ci").pack
+# The five bytes before the payload of a CopyData, by the payload's length.
+HEADERS = Heads(lambda length: struct.pack(">ci", b"d", length + 4))
 
 
 def header(payload: bytes) -> bytes:
-    """The five bytes before the payload of a CopyData."""
     return HEADERS[len(payload)]
-
-
-class Headers(dict[int, bytes]):
-    """The five bytes before the payload of a CopyData, by the payload's length."""
-
-    def __missing__(self, length: int) -> bytes:
-        head = pack_header(b"d", length + 4)
-        if length < KEPT_HEADERS:
-            self[length] = head
-        return head
-
-
-HEADERS = Headers()

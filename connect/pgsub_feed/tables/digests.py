@@ -162,10 +162,8 @@ def read_digests(db: sqlite3.Connection) -> dict[int, Digest]:
     """By OID that of each table; none where the file keeps none."""
     if not has_digests(db):
         return {}
-    return {
-        oid: Digest(*more)
-        for oid, *more in db.execute(f"SELECT oid, rows, first, second FROM {DIGESTS}")
-    }
+    rows = db.execute(f"SELECT oid, rows, first, second FROM {DIGESTS}")
+    return {oid: Digest(*more) for oid, *more in rows}
 
 
 def summed(texts: Iterable[bytes]) -> Digest:

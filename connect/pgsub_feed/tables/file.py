@@ -165,15 +165,13 @@ class Rows:
 
     def check_source(self, head: Head) -> None:
         """Notes what the feed is a feed of, or rejects one of something else."""
-        system, database, slot = self.db.execute(
-            f"SELECT system, database, slot FROM {FEED}"
-        ).fetchone()
-        if system is None:
+        source = self.db.execute(f"SELECT system, database, slot FROM {FEED}").fetchone()
+        if source[0] is None:
             self.begin()
             self.db.execute(f"UPDATE {FEED} SET system = ?, database = ?, slot = ?", head.source())
             self.settle(self.at)
-        elif (system, database, slot) != head.source():
-            was = Head(0, system, database, slot)
+        elif source != head.source():
+            was = Head(0, *source)
             raise Unfit(f"{self.path} has rows of {was.text()}, and the feed is of {head.text()}")
 
     def keep_digests(self) -> None:
@@ -230,10 +228,8 @@ class Rows:
     def shape(self, relation: Relation) -> Kept:
         kept = self.kept.get(relation.oid)
         if relation.oid in self.left_out:
-            raise Unkept(
-                relation,
-                "it had another name before, which wasn't chosen: its rows from then are missing",
-            )
+            why = "it had another name before, which wasn't chosen: its rows from then are missing"
+            raise Unkept(relation, why)
         name = self.claim(relation, kept)
         before = kept and kept.relation.shape.columns
         primary = self.keys.of(relation)

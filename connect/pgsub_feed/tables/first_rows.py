@@ -41,9 +41,8 @@ def check_file(path: str) -> None:
     if not os.path.isdir(folder):
         raise FileError(f"--into {path}: there is no folder {folder}")
     if os.path.lexists(path) and not (os.path.isfile(path) and is_tables(path)):
-        raise FileError(
-            f"{path} is there and has no tables that follow a feed: remove it, or name another file"
-        )
+        text = f"{path} is there and has no tables that follow a feed"
+        raise FileError(f"{text}: remove it, or name another file")
 
 
 @contextlib.contextmanager
@@ -178,9 +177,8 @@ def head_of(reading: Reading, check: Check) -> Head:
         while poll.next() is None and reader.head is None and reading.follows:
             if time.monotonic() > tells_from:
                 tells_from = float("inf")
-                log.info(
-                    f"{reading.feed} has no segment yet, as before a follower's first copy is done: it is waited for"
-                )
+                why = "as before a follower's first copy is done: it is waited for"
+                log.info(f"{reading.feed} has no segment yet, {why}")
             poll.rest()
         if reader.head is None:
             text = f"{reading.feed}: the feed has no segment yet: is it the --feed of a follower?"

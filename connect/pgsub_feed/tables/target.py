@@ -106,10 +106,8 @@ class Target:
         if len(self.columns) > MOST_COLUMNS:
             why = f"it has over {MOST_COLUMNS} columns in SQLite: numerics of over 15 digits have two, with --numeric text one"
             raise Unkept(self.relation, why)
-        parts = [
-            f"{column} {kind}"
-            for column, (kind, _, _) in zip(self.columns, self.kinds, strict=True)
-        ]
+        pairs = zip(self.columns, self.kinds, strict=True)
+        parts = [f"{column} {kind}" for column, (kind, _, _) in pairs]
         parts += [f"PRIMARY KEY ({self.keys()})"] if self.is_keyed else []
         return f"CREATE TABLE {identifier(self.name)} ({', '.join(parts)}) STRICT"
 

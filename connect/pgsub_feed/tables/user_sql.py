@@ -4,17 +4,13 @@ import sqlite3
 from collections.abc import Iterator
 
 from .. import log
-from ..errors import FileError
+from ..errors import FileError, told_of
 from .sqlite_files import FULL
 
 # What passes: a table that isn't there yet, and what is there already.
 PASSED = ("no such ", "already exists")
-DENIED = {
-    sqlite3.SQLITE_TRANSACTION,
-    sqlite3.SQLITE_SAVEPOINT,
-    sqlite3.SQLITE_ATTACH,
-    sqlite3.SQLITE_DETACH,
-}
+DENIED = {sqlite3.SQLITE_TRANSACTION, sqlite3.SQLITE_SAVEPOINT}
+DENIED |= {sqlite3.SQLITE_ATTACH, sqlite3.SQLITE_DETACH}
 
 
 def statements(text: str) -> Iterator[str]:
@@ -50,10 +46,8 @@ class Init:
         self.path = path
         self.told: set[str] = set()
         try:
-            with open(path, encoding="utf-8") as file:
+            with told_of(path), open(path, encoding="utf-8") as file:
                 self.statements = list(statements(file.read()))
-        except OSError as error:
-            raise FileError(f"{path}: {error.strerror}") from None
         except UnicodeDecodeError:
             raise FileError(f"{path}: it isn't in UTF-8") from None
 

@@ -161,6 +161,9 @@ def kinds_of(column: Column, form: str, of: str) -> list[Kind]:
     return [text if form == ALL_TEXT else KINDS.get(column.type_oid, text)]
 
 
+SPOILED = "a malformed row or definition: the disk, or another program, has spoiled the file"
+
+
 class Malformed(Exception):
     """A row of the store that isn't one of its table."""
 
