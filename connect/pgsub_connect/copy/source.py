@@ -23,6 +23,7 @@ from pgsub_feed.texts import literal
 from ..drift.remembered import Remembered
 from ..errors import NoSlot, ServerError, understood
 from ..server.catalog import Table
+from ..server.catalog_reader import listed_oids
 from ..server.connection import Connection
 from ..server.publications import published_tables
 from ..server.session import Subscription, identify, is_same_database
@@ -36,16 +37,12 @@ from .tries import CHANGED
 MOVED, ALTERED, LOCKED = "truncated or written anew", "altered or dropped", "locked by others"
 
 
-def listed(tables: list[Table]) -> str:
-    return ", ".join(str(it.oid) for it in tables)
-
-
 @understood("the files of tables")
 def moved(plain: Connection, tables: list[Table]) -> set[int]:
     """Those with another file, or other partitions, than the transaction's snapshot has."""
     if not tables:
         return set()
-    oids = listed(tables)
+    oids = listed_oids([it.oid for it in tables])
     rows = plain.rows(
         "WITH RECURSIVE t (root, oid) AS ("
         f" SELECT c.oid, c.oid FROM pg_catalog.pg_class c WHERE c.oid IN ({oids})"

@@ -130,8 +130,7 @@ class Fitting:
         log.warning(f"found: history at {at}: {text}: verify --repair, then --accept history again")
 
     def check_start(self, slot_at: int, position: int, check: Check) -> None:
-        """Rejects a gap between store and slot, unless it was said to be wanted. One that is
-        accepted is found from then on, until it is accepted again."""
+        """Rejects a gap, unless it is wanted. An accepted one is found until accepted again."""
         known = self.checkpoint.known
         is_wanted = known.phase == NEW and self.no_copy and position == 0
         if is_wanted:

@@ -126,8 +126,8 @@ class Connection:
             self.wait(until)
         return self.raw.get_result()
 
-    def execute(
-        self, command: str, wanted: tuple[pq.ExecStatus, ...], limit: float = float("inf")
+    def run(
+        self, command: str, wanted: tuple[pq.ExecStatus, ...] = DONE, limit: float = float("inf")
     ) -> Rows:
         """Runs a command for its rows or copy. `limit`: when the connection is given up."""
         found, last = Rows(), None
@@ -175,14 +175,9 @@ class Connection:
         text = said_text(result.error_message) or self.error()
         return ServerError(text, sqlstate.decode(errors="replace"))
 
-    def run(
-        self, command: str, wanted: tuple[pq.ExecStatus, ...] = DONE, limit: float = float("inf")
-    ) -> None:
-        self.execute(command, wanted, limit)
-
     def rows(self, command: str, limit: float = float("inf")) -> list[list[str | None]]:
         """Runs a query, and returns its rows as lists of texts, None for null."""
-        return self.execute(command, ROWS, limit).rows
+        return self.run(command, ROWS, limit).rows
 
     def value(self, command: str, limit: float = float("inf")) -> str | None:
         """The first value of a query's first row, None where there is no row."""
@@ -217,7 +212,7 @@ class Connection:
 
     def copied_blocks(self, command: str, size: int) -> Iterator[list[bytes]]:
         """Yields the lines of a COPY TO STDOUT in blocks of about so many bytes."""
-        self.execute(command, COPY_OUT)
+        self.run(command, COPY_OUT)
         lines, left, last = list[bytes](), size, 1
         while last >= 0:
             found, last = self.wire.take(left, size)

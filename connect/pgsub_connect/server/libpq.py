@@ -211,8 +211,7 @@ class Slow:
 
 
 class Quick(Slow):
-    """Does so by libpq's own calls. psycopg's way to them by ctypes, which costs as much again, is
-    passed by, and what is the same for all messages is made once."""
+    """Does so by libpq's own calls: psycopg's way to them by ctypes costs as much again."""
 
     def __init__(self, raw: pq.abc.PGconn, pointer: int) -> None:
         super().__init__(raw)

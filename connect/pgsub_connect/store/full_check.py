@@ -31,14 +31,10 @@ def judge_rows(program: str, store: str, check: Check) -> Result:
 
 def dumped(program: str, store: str, check: Check) -> tuple[int, str]:
     """Has the program read all rows. Returns its status, and the last line that it said."""
-    words = [program, "dump", "--store", meant(store)]
+    words, null = [program, "dump", "--store", meant(store)], subprocess.DEVNULL
     try:
         child = subprocess.Popen(
-            words,
-            stdin=subprocess.DEVNULL,
-            stdout=subprocess.DEVNULL,
-            stderr=subprocess.PIPE,
-            start_new_session=True,
+            words, stdin=null, stdout=null, stderr=subprocess.PIPE, start_new_session=True
         )
     except OSError as failed:
         raise FileError(f"{program}: {failed.strerror}") from None

@@ -103,8 +103,7 @@ class Streamed:
 def count_truncates(
     counts: dict[bytes, int], head: bytes, payload: bytes, first: int, is_met: Callable[[int], bool]
 ) -> None:
-    """Counts a TRUNCATE, whose OIDs begin at `first`, for each table that is met elsewhere, and for
-    all others together: these are as many as anybody sends."""
+    """Counts a TRUNCATE, its OIDs from `first` on, for each table that is met, and all others."""
     for at in range(first, len(payload) - 3, 4 * AT_ONCE):
         some = payload[at : at + 4 * AT_ONCE]
         oids = struct.unpack_from(f">{len(some) // 4}I", some)
