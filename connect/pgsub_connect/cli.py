@@ -8,7 +8,7 @@ from typing import Any, Protocol, cast
 
 from pgsub_feed import log
 from pgsub_feed.interruption import Check
-from pgsub_feed.options import Parser, TellVersion, add_fields, meant
+from pgsub_feed.options import Parser, add_fields, add_version, meant
 from pgsub_feed.program import check_signals, guarded
 
 from .commands.arguments.words import ENDS
@@ -80,8 +80,7 @@ def overview() -> Parser:
     """What tells which subcommands there are."""
     parser = Parser(log.PROGRAM, f"{ABOUT}\n{list_of_commands()}", MORE + ENDS)
     parser.usage = "%(prog)s [-h] [--version] COMMAND ..."
-    about = "show the version, and the commit of a checkout"
-    parser.add_argument("--version", action=TellVersion, nargs=0, help=about)
+    add_version(parser)
     return parser
 
 

@@ -110,6 +110,11 @@ def add_version(parser: argparse.ArgumentParser) -> None:
     )
 
 
+def no(text: str, what: str) -> argparse.ArgumentTypeError:
+    """The error of a word that isn't what it is to be."""
+    return argparse.ArgumentTypeError(f"{text!r} is no {what}")
+
+
 def lsn(text: str) -> int:
     try:
         return parse_lsn(text)
@@ -120,21 +125,21 @@ def lsn(text: str) -> int:
 def duration(text: str) -> float:
     found = TIME.fullmatch(text)
     if not found:
-        raise argparse.ArgumentTypeError(f"{text!r} is no time, as 30s or 5min")
+        raise no(text, "time, as 30s or 5min")
     return float(found[1]) * SECONDS[found[2] or "s"]
 
 
 def size(text: str) -> int:
     found = SIZE.fullmatch(text)
     if not found or not int(found[1]):
-        raise argparse.ArgumentTypeError(f"{text!r} is no size, as 500MB or 10GB")
+        raise no(text, "size, as 500MB or 10GB")
     return int(found[1]) * BYTES[found[2] or "B"]
 
 
 def plain_name(text: str) -> str:
     # (what ends so is a file that is being written)
     if not text or text.startswith(".") or text.endswith(".new") or os.sep in text:
-        raise argparse.ArgumentTypeError(f"{text!r} is no name for a file")
+        raise no(text, "name for a file")
     return text
 
 

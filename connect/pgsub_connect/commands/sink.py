@@ -12,7 +12,7 @@ from pgsub_feed.debezium.settings import DEBEZIUM, SCHEMAS
 from pgsub_feed.errors import NoFeed, Passing, UsageError
 from pgsub_feed.interruption import Check
 from pgsub_feed.known_tables import KnownTables, known_beside
-from pgsub_feed.options import add_fields, file, flag, lsn, option
+from pgsub_feed.options import add_fields, file, flag, lsn, no, option
 from pgsub_feed.ownership import readable_by, readable_text
 from pgsub_feed.reader.folder import segments
 from pgsub_feed.sinks import connecting, kafka_engine, nats_engine, redis_calls
@@ -72,9 +72,7 @@ sink keeps; 6 a bug; 7 something is in the way only for now, as a feed that its 
 
 def stream_name(text: str) -> str:
     if not text or not all(it.isascii() and (it.isalnum() or it in "-_") for it in text):
-        raise argparse.ArgumentTypeError(
-            f"{text!r} is no name of a stream: letters, digits, - and _"
-        )
+        raise no(text, "name of a stream: letters, digits, - and _")
     return text
 
 

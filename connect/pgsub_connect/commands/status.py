@@ -18,7 +18,7 @@ from typing import Any
 from pgsub_feed import json_texts, log
 from pgsub_feed.errors import Stopped, UsageError
 from pgsub_feed.interruption import Check
-from pgsub_feed.options import BYTES, SECONDS, add_fields, duration, flag, option
+from pgsub_feed.options import BYTES, SECONDS, add_fields, duration, flag, no, option
 
 from ..status.files import STATUS
 from ..status.health import ENDED, KINDS, Fault, Limit, cures_of, faults, line_of, screen_of
@@ -49,9 +49,7 @@ CLEARED = "\x1b[H\x1b[2J"
 def lag_limit(text: str) -> Limit:
     found = LAG.fullmatch(text)
     if not found:
-        raise argparse.ArgumentTypeError(
-            f"{text!r} is no time and no size, as 60s, 5min, 10MB or 1GB"
-        )
+        raise no(text, "time and no size, as 60s, 5min, 10MB or 1GB")
     number, unit = float(found[1]), found[2]
     if unit in SECONDS:
         return Limit(text, "lag_seconds", number * SECONDS[unit])

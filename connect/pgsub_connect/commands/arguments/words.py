@@ -7,7 +7,7 @@ from collections.abc import Callable, Iterable
 from typing import Any, TypeVar
 
 from pgsub_feed.errors import UsageError
-from pgsub_feed.options import file, lsn, option
+from pgsub_feed.options import file, lsn, no, option
 from pgsub_feed.texts import is_utf_8
 
 from ...store.placing import check_apart
@@ -23,16 +23,14 @@ def mode_of(text: str) -> int:
     except ValueError:
         number = -1
     if not 0o600 <= number <= 0o777 or number & 0o600 != 0o600:
-        raise argparse.ArgumentTypeError(
-            f"{text!r} is no mode that the owner can read and write, as 640"
-        )
+        raise no(text, "mode that the owner can read and write, as 640")
     return number
 
 
 def within(least: int, most: int) -> Callable[[str], int]:
     def number(text: str) -> int:
         if not text.isdigit() or not least <= int(text) <= most:
-            raise argparse.ArgumentTypeError(f"{text!r} is no number from {least} to {most}")
+            raise no(text, f"number from {least} to {most}")
         return int(text)
 
     return number
@@ -45,9 +43,7 @@ def within_seconds(most: float, least: float = 0.1) -> Callable[[str], float]:
         except ValueError:
             number = -1.0
         if not least <= number <= most:
-            raise argparse.ArgumentTypeError(
-                f"{text!r} is no number of seconds from {least} to {most:.0f}"
-            )
+            raise no(text, f"number of seconds from {least} to {most:.0f}")
         return number
 
     return seconds
