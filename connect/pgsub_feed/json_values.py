@@ -68,9 +68,10 @@ def form_of(kind: Any) -> Form:
 
 
 def form_of_maybe(form: Form) -> Form:
-    read, written = form
-    known: Callable[[Any], Any] = lambda it: None if it is None else written(it)
-    return Form(lambda it: None if it is None else read(it), known)
+    def or_none(call: Callable[[Any], Any]) -> Callable[[Any], Any]:
+        return lambda it: None if it is None else call(it)
+
+    return Form(or_none(form.read), or_none(form.written))
 
 
 def form_of_dict(key: Form, value: Form) -> Form:
