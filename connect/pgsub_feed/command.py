@@ -42,7 +42,7 @@ Prints the commits of a feed.
 FORMATS_ABOUT = """\
 formats: `lines` are the feed's own, whole commits. `objects` has an object for each change: its id, made of the LSN at which the commit
 ends and the number of the change, xid and time, op (c, u, d or t; r of a row from before; x of one that found no row), schema, table, and the row before and after
-it by the names of the columns. Values are numbers, true and false, or as the server prints them. `debezium` has the envelope of Debezium's
+it by the names of the columns; of a logical message (m) its LSN, prefix and content. Values are numbers, true and false, or as the server prints them. `debezium` has the envelope of Debezium's
 connector for PostgreSQL (FEED.md says what differs), for an update of a key a delete and an insert; with --keys the key and a tab before
 each, and a tombstone after a delete, which is a key and a tab alone.
 
@@ -99,7 +99,7 @@ class Options:
         "",
     )
     table: Sequence[str] = option(
-        "changes of this table, may be repeated (default: of all): t, or s.t of another schema than public; quoted as in SQL or not",
+        "changes of this table, and messages, may be repeated (default: of all): t, or s.t of another schema than public; quoted as in SQL or not",
         (),
     )
     pipe: bool = flag(

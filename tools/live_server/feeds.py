@@ -157,6 +157,8 @@ class Images:
     def check(self, end: str, body: bytes) -> None:
         names, changes, logged = dict[int, str](), list[Change](), list[Change]()
         for it in map(json.loads, body.splitlines()):
+            if it["op"] == "m":
+                continue
             if it["op"] == "table":
                 names[it["oid"]] = it["table"]
             elif names[it["oid"]] == "logged" and it["op"] == "c":

@@ -298,7 +298,7 @@ def expected_of(feed: Path) -> Expected:
                 it = json.loads(line)
                 if it["op"] == "table":
                     found.definitions[it["oid"]] = it
-                else:
+                elif it["op"] != "m":
                     found.change(lsn_of(commit["end"]), it)
     return found
 

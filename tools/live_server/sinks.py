@@ -130,7 +130,7 @@ def replay_messages(messages: Iterable[Tuple[str, str, Any]]) -> Tuple[Counted, 
     told, ids = Told(), []
     for _, id, it in messages:
         ids.append(id)
-        if "op" in it:
+        if "oid" in it:
             told.change(it["oid"], it["op"], it.get("before"), it.get("after"))
     return told.left(), ids
 

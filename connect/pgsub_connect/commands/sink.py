@@ -50,6 +50,8 @@ of redis+sentinel:// (port 26379) are asked at each connection, without a login,
 
 A stream's entry has `op` (c, u, d, t; r of a row of the export, x of a change that found no row), `oid`, and the rows `before` and `after`
 as objects; a message has them too, and `end`, where its commit ends, `n`, `schema` and `table`.
+Logical messages have the `op` m, `lsn`, `prefix` and `content`, whichever tables are named: as entries of the stream `pgsub:message`, with the
+content's bytes, under the subject STREAM.message, and in the topic PREFIX.message; hashes pass over them.
 
 NATS: subjects are STREAM.schema.table, and STREAM.commit for the last message of each commit. A commit of which a part was published is
 completed. --table goes by the names that tables have just then. With --reader, an LSN counts after 150 seconds, once the server has synced

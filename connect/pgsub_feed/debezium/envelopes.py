@@ -13,6 +13,7 @@ A table without a key has no tombstones, and updates as they are.
 """
 
 import collections
+import functools
 import time
 from collections.abc import Callable, Iterable, Iterator, Sequence
 from typing import Any, NamedTuple
@@ -166,9 +167,13 @@ class Envelopes:
         return Message(
             logical_messages.topic_of(settings),
             self.text(lambda: logical_messages.KEY, logical_messages.key_of(it)),
-            self.text(lambda: logical_messages.schema_of(settings), value),
+            self.text(lambda: self.message_schema, value),
             it.n,
         )
+
+    @functools.cached_property
+    def message_schema(self) -> bytes:
+        return logical_messages.schema_of(self.settings)
 
     def order(self, collection: str) -> dict[str, object] | None:
         """Counts one more of a table, or a message. Returns where it is in its transaction."""
