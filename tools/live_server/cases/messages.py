@@ -287,6 +287,8 @@ def too_many(place: Place) -> None:
     place.follow("--messages", "2kB")
     if compare(place) != 2:
         raise Failed("not both are told")
+    if place.found():
+        raise Failed(f"it found {place.found()}")
     place.equal()
 
 
