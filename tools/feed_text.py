@@ -67,7 +67,7 @@ class Line:
 
 @dataclass(frozen=True)
 class Message:
-    """A logical message: where in the log, its prefix and what it has."""
+    """A logical message: where it ends in the log, its prefix and what it has."""
 
     lsn: int
     prefix: str

@@ -79,8 +79,8 @@ class Cursor:
 
 
 class Message(NamedTuple):
-    """A logical message of the transaction, as `pg_logical_emit_message` writes them: where it is in
-    the log, and its number among those of the commit. `content` is bytes where it is no text of
+    """A logical message of the transaction, as `pg_logical_emit_message` writes them: where it ends
+    in the log, and its number among those of the commit. `content` is bytes where it is no text of
     UTF-8, or has U+0000."""
 
     lsn: int

@@ -144,7 +144,8 @@ def told_in(feed: Path) -> list[Told]:
     """What a feed tells."""
     _, state = rows_of_feed(feed)
     for it in state.messages:
-        if it.final is None or not it.lsn < it.final < it.end:
+        # (it ends where the commit's record begins, or before)
+        if it.final is None or not it.lsn <= it.final < it.end:
             raise Failed(f"a message isn't before its commit: {it}")
     return [Told(it.end, it.xid, it.lsn, it.prefix, it.content) for it in state.messages]
 
