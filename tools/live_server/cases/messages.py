@@ -278,7 +278,7 @@ def too_many(place: Place) -> None:
     child = place.start()
     place.catch_up(child)
     fits, large = emitted("p", b"x" * 1023), emitted("p", b"x" * 1024)
-    place.run(fits, "BEGIN", large, "UPDATE stock SET quantity = 7", "COMMIT")
+    place.run(fits, "BEGIN", large, "INSERT INTO stock VALUES (7, 7)", "COMMIT")
     said = place.has_ended(child, REJECTED, "feed 4 MessagesTooLong")
     for text in ("give --messages more", "passes over it", "1024 bytes of messages"):
         if text not in said:
