@@ -111,10 +111,40 @@ def read_id(text: str) -> Tuple[int, int]:
     return int(lsn), int(n)
 
 
+# The stream of logical messages, and their subject.
+STREAM, SUBJECT = "pgsub:message", "pgsub.message"
+# One as a sink tells it: where its commit ends, its number there, and what it has.
+Logical = Tuple[int, int, int, str, str]
+
+
+def logical_of_feed(state: Replay) -> List[Logical]:
+    """The messages that a replayed feed tells."""
+    found, ends = list[Logical](), collections.Counter[int]()
+    for it in state.messages:
+        found.append((it.end, ends[it.end], it.lsn, it.prefix, it.content.decode()))
+        ends[it.end] += 1
+    return found
+
+
+def logical_of_stream(entries: Dict[str, List[Tuple[str, Dict[str, str]]]]) -> List[Logical]:
+    return [
+        (*read_id(at), lsn_of(it["lsn"]), it["prefix"], it["content"])
+        for at, it in entries.get(STREAM, [])
+    ]
+
+
+def logical_of_nats(messages: Iterable[Tuple[str, str, Any]]) -> List[Logical]:
+    return [
+        (lsn_of(it["end"]), it["n"], lsn_of(it["lsn"]), it["prefix"], it["content"])
+        for subject, _, it in messages
+        if subject == SUBJECT
+    ]
+
+
 def replay_streams(entries: Dict[str, List[Tuple[str, Dict[str, str]]]]) -> Counted:
     """The rows to which streams lead, whose ids give the order."""
     told, ordered = Told(), list[Tuple[int, int, Dict[str, str]]]()
-    for stream in entries.values():
+    for stream in (it for name, it in entries.items() if name != STREAM):
         ids = [read_id(at) for at, _ in stream]
         if ids != sorted(set(ids)):
             raise Failed("the ids of a stream don't rise")
@@ -138,8 +168,10 @@ def replay_messages(messages: Iterable[Tuple[str, str, Any]]) -> Tuple[Counted, 
 def ids_of_feed(feed: Path, above: int) -> Iterator[str]:
     """The ids of the messages that the commits after an LSN have."""
     for path in segments(feed):
-        for commit, _ in commits(path):
+        for commit, body in commits(path):
             if lsn_of(commit["end"]) > above:
+                count = sum(it.startswith(b'{"op":"m",') for it in body.splitlines())
+                yield from (f"{commit['end']}:m{n}" for n in range(count))
                 yield from (f"{commit['end']}:{n}" for n in range(commit["changes"]))
                 yield f"{commit['end']}:commit"
 

@@ -15,7 +15,7 @@ from pathlib import Path
 
 from feed_load import Load
 from feed_replay import commits, lsn_of, replay
-from feed_text import Column, Definition, Line, Writer
+from feed_text import Column, Definition, Line, Message, Writer
 
 from ..engines import Engine, NatsServer, RedisServer
 from ..errors import Failed
@@ -29,6 +29,9 @@ from ..sinks import (
     compare_hashes,
     compare_messages,
     hashes_of_feed,
+    logical_of_feed,
+    logical_of_nats,
+    logical_of_stream,
     replay_streams,
     rows_of_feed,
     rows_of_server,
@@ -149,7 +152,14 @@ class Writing(threading.Thread):
             self.ended.wait(0.01 * self.rng.random())
 
     def commit(self, lines: Sequence[Line]) -> None:
-        self.writer.commit(self.writer.at + self.rng.randrange(1, 5000), lines)
+        messages = [
+            Message(
+                self.count + it, self.rng.choice(("order", "ä", "")), b"%d %d" % (self.count, it)
+            )
+            for it in range(self.rng.choice((0, 0, 0, 1, 5)))
+        ]
+        end = self.writer.at + self.rng.randrange(1, 5000)
+        self.writer.commit(end, lines, messages=messages)
         self.count += 1
 
     def finish(self) -> int:
@@ -162,7 +172,7 @@ class Writing(threading.Thread):
 
 def killed(place: Place) -> None:
     """Sinks and engines are killed while a feed is written: hashes and replayed streams are its
-    rows, and messages have each commit once."""
+    rows, and messages have each commit once, as they and streams have each logical message."""
     rng = random.Random(f"sinks {place.options.seed}")
     feed = place.folder / "feed"
     writing = Writing(feed, random.Random(place.options.seed))
@@ -179,11 +189,14 @@ def killed(place: Place) -> None:
     state = replay(feed)
     rows = rows_of_feed(state)
     hashes = compare_hashes(sinks.hashes, hashes_of_feed(state))
-    compare("rows of the streams", replay_streams(sinks.streams.entries()), rows)
+    entries, logical = sinks.streams.entries(), logical_of_feed(state)
+    compare("rows of the streams", replay_streams(entries), rows)
     told, messages = compare_messages(sinks.nats, feed)
     compare("rows of the messages", told, rows)
+    compare("logical messages of the stream", logical_of_stream(entries), logical)
+    compare("logical messages of NATS", logical_of_nats(sinks.nats.messages()), logical)
     print(
-        f"   {writing.count} commits, {state.changes} changes, {hashes} hashes, {messages} messages; {sinks.said()}",
+        f"   {writing.count} commits, {len(logical)} logical messages, {state.changes} changes, {hashes} hashes, {messages} messages; {sinks.said()}",
         flush=True,
     )
 
