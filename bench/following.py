@@ -174,8 +174,11 @@ def wait_for_stream(servers: Servers, follower: Follower) -> None:
 class Subscription:
     """A subscription in a database of its own on the second server."""
 
-    def __init__(self, servers: Servers, slot: str, synchronous: bool) -> None:
-        self.servers, self.slot = servers, slot
+    def __init__(
+        self, servers: Servers, slot: str, synchronous: bool, has_rows: bool = True
+    ) -> None:
+        """Where there are no rows, none are copied: each table takes a worker of its own."""
+        self.servers, self.slot, self.has_rows = servers, slot, has_rows
         self.name = f"subscription, {'synchronous commits' if synchronous else 'as by default'}"
         servers.make_database(servers.subscriber, slot)
         self.session: Session = servers.subscriber.connect(slot)
@@ -187,7 +190,7 @@ class Subscription:
         streaming = "streaming = true, " if self.servers.streams() else ""
         self.session.run(
             f"CREATE SUBSCRIPTION {self.slot} CONNECTION '{self.servers.publisher.dsn_inside()}' PUBLICATION {PUBLICATION}"
-            f" WITH ({streaming}synchronous_commit = {commit})",
+            f" WITH ({streaming}synchronous_commit = {commit}, copy_data = {str(self.has_rows).lower()})",
         )
         wait_until(self.is_copied, f"{self.slot}: the copy", LIMIT)
 

@@ -26,9 +26,9 @@ of that time. That one bounds it where the part is nearly all; else the disk doe
 |---|---|---|---|---|---|---|---|---|---|---|---|---|"""
 
 
-def followers(servers: Servers, turn: int, proto: int) -> list[Follower]:
+def followers(servers: Servers, turn: int, proto: int, has_rows: bool) -> list[Follower]:
     return [
-        Subscription(servers, f"default_{turn}", synchronous=False),
+        Subscription(servers, f"default_{turn}", synchronous=False, has_rows=has_rows),
         Program(servers, f"pgsub_{turn}", proto),
     ]
 
@@ -54,7 +54,9 @@ def line(kind: Kind, subscription: list[Run], program: list[Run]) -> str:
 
 def run(servers: Servers, kind: Kind, words: argparse.Namespace) -> None:
     servers.session.run(*kind.fill)
-    turns = [followers(servers, turn, words.proto) for turn in range(1, words.turns + 1)]
+    turns = [
+        followers(servers, turn, words.proto, bool(kind.fill)) for turn in range(1, words.turns + 1)
+    ]
     servers.publisher.run("ALTER DATABASE shop SET synchronous_commit = off", database="postgres")
     servers.session.run(*kind.make)
     end = servers.last_commit(kind.last)
