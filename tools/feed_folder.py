@@ -3,7 +3,7 @@ docs/FORMATS.md, and what differs in another one."""
 
 from __future__ import annotations
 
-from collections.abc import Mapping, Sequence
+from collections.abc import Mapping
 from dataclasses import dataclass
 from itertools import zip_longest
 from pathlib import Path
@@ -11,8 +11,8 @@ from pathlib import Path
 from feed_text import (
     SEGMENT_SIZE,
     About,
-    Line,
-    Message,
+    Lines,
+    Messages,
     Told,
     closing_line,
     entry_text,
@@ -66,10 +66,10 @@ class Segment:
         self,
         at: int,
         end: int,
-        lines: Sequence[Line],
+        lines: Lines,
         about: About | None,
         told: Told,
-        messages: Sequence[Message] = (),
+        messages: Messages = (),
     ) -> bytes:
         """The text of a commit here. What it tells is told then."""
         return entry_text(at, end, lines, about, told, len(self.text), messages)
@@ -131,11 +131,7 @@ class Folder:
         self.last().text += closing_line(self.at)
 
     def commit(
-        self,
-        end: int,
-        lines: Sequence[Line] = (),
-        about: About | None = None,
-        messages: Sequence[Message] = (),
+        self, end: int, lines: Lines = (), about: About | None = None, messages: Messages = ()
     ) -> None:
         messages = messages if self.asked.messages else ()
         told = self.last().told.copy()

@@ -74,6 +74,11 @@ class Message:
     content: bytes
 
 
+# What the commits of tests are given.
+Lines = Sequence[Line]
+Messages = Sequence[Message]
+
+
 @dataclass(frozen=True)
 class About:
     """The final LSN, the xid, and the time in microseconds since 2000."""
@@ -179,9 +184,7 @@ def change_line(at: int, n: int, it: Line) -> bytes:
 Told = dict[int, tuple[Definition, int]]
 
 
-def body_text(
-    lines: Sequence[Line], told: Told, start: int, messages: Sequence[Message] = ()
-) -> bytes:
+def body_text(lines: Lines, told: Told, start: int, messages: Messages = ()) -> bytes:
     """The lines of a commit, which begin at an offset of the segment: those of messages, then before
     a change its definition, unless it is told. What they tell is told then."""
     body = b"".join(map(message_line, messages))
@@ -199,11 +202,11 @@ def body_text(
 def entry_text(
     prev: int,
     end: int,
-    lines: Sequence[Line],
+    lines: Lines,
     about: About | None = None,
     told: Told | None = None,
     size: int = SEGMENT_SIZE,
-    messages: Sequence[Message] = (),
+    messages: Messages = (),
 ) -> bytes:
     """The text of a commit behind so many bytes of a segment, which has told these definitions."""
     body = body_text(lines, {} if told is None else told, size + COMMIT_SIZE, messages)
@@ -240,9 +243,9 @@ class Writer:
     def text(
         self,
         end: int,
-        lines: Sequence[Line],
+        lines: Lines,
         about: About | None = None,
-        messages: Sequence[Message] = (),
+        messages: Messages = (),
     ) -> bytes:
         """Makes room for a commit; its text, which is to be put next."""
         told = self.told.copy()
@@ -255,11 +258,7 @@ class Writer:
         return text
 
     def commit(
-        self,
-        end: int,
-        lines: Sequence[Line] = (),
-        about: About | None = None,
-        messages: Sequence[Message] = (),
+        self, end: int, lines: Lines = (), about: About | None = None, messages: Messages = ()
     ) -> None:
         self.put(self.text(end, lines, about, messages))
 

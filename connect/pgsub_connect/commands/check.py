@@ -8,7 +8,7 @@ import sys
 
 from pgsub_feed.interruption import Check
 from pgsub_feed.log import escaped
-from pgsub_feed.options import add_fields, flag, option, size
+from pgsub_feed.options import add_fields, flag
 
 from ..drift.remembered import Remembered
 from ..preconditions import ERROR, Purpose, results
@@ -16,7 +16,7 @@ from ..server.preflight import all_facts
 from ..server.transport import OWN
 from ..store.at_rest import is_whole
 from ..store.full_check import judge_rows
-from .arguments.feed import MOST_OF_MESSAGES
+from .arguments.feed import messages_option
 from .arguments.server import (
     CopyOptions,
     StoreOptions,
@@ -44,12 +44,8 @@ class Options(StoreOptions, CopyOptions):
         False,
     )
     pgsub: str = program_option()
-    messages: int = option(
-        "what following with --messages needs, too (default: as the store has had it)",
-        0,
-        nargs="?",
-        const=MOST_OF_MESSAGES,
-        type=size,
+    messages: int = messages_option(
+        "what following with --messages needs, too (default: as the store has had it)"
     )
     json: bool = flag("print a JSON array")
 

@@ -3,7 +3,7 @@
 import dataclasses
 import os
 from collections.abc import Sequence
-from typing import TypeVar
+from typing import Any, TypeVar
 
 from pgsub_feed.errors import Unfit, UsageError
 from pgsub_feed.options import duration, file, flag, option, size
@@ -30,6 +30,11 @@ NEEDS = {
 # Of how many bytes the messages of a transaction may be where it isn't said.
 MOST_OF_MESSAGES = 64 << 20
 FEED_BASE = "keep the rows of the initial copy as files of the feed, too, yes or no (default: yes where --feed is named)"
+
+
+def messages_option(about: str) -> Any:
+    """--messages, or with a size: 0 where it isn't said."""
+    return option(about, 0, nargs="?", const=MOST_OF_MESSAGES, type=size)
 
 
 @dataclasses.dataclass(frozen=True)
@@ -61,12 +66,8 @@ class FeedOptions:
         type=duration,
     )
     feed_base: str = option(FEED_BASE, "", choices=["yes", "no"], value="WHETHER")
-    messages: int = option(
-        "tell in the feed what transactions write by pg_logical_emit_message (PostgreSQL 14), of each at most SIZE (default: 64MB, and as the store has had it); large transactions come whole then",
-        0,
-        nargs="?",
-        const=MOST_OF_MESSAGES,
-        type=size,
+    messages: int = messages_option(
+        "tell in the feed what transactions write by pg_logical_emit_message (PostgreSQL 14), of each at most SIZE (default: 64MB, and as the store has had it); large transactions come whole then"
     )
     without_messages: bool = flag("tell them no more")
     tables: str = file(
