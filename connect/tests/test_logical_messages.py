@@ -303,13 +303,7 @@ class InNats(NatsCase):
         self.run_it()
         whole = self.server.ids()
         self.assertEqual(whole[4:8], ["0/200:m0", "0/200:0", "0/200:1", "0/200:commit"])
-        for accepted in range(len(whole)):
-            self.server.stream, self.server.last, self.server.accepts = None, 0, accepted
-            self.fails(Passing, "the connection is lost|has ended the connection")
-            self.assertEqual(self.server.ids(), whole[:accepted])
-            self.server.accepts = None
-            self.run_it()
-            self.assertEqual(self.server.ids(), whole)
+        self.goes_on_after_each(whole)
 
     def test_another_message_has_the_number_of_one_that_is_there(self) -> None:
         self.take(messages=[ORDER, Message(2, "order", b"2")])

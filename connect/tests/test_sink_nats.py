@@ -48,6 +48,16 @@ class NatsCase(SinkCase):
         self.assertLessEqual(len({it[1] for it in map(NUMBERED.search, found) if it}), 1, found)
         return [NUMBERED.sub("base:", it) for it in found]
 
+    def goes_on_after_each(self, whole: list[str]) -> None:
+        """The server accepts each number of messages, and then the others: each is there once."""
+        for accepted in range(len(whole)):
+            self.server.stream, self.server.last, self.server.accepts = None, 0, accepted
+            self.fails(Passing, "the connection is lost|has ended the connection")
+            self.assertEqual(self.server.ids(), whole[:accepted])
+            self.server.accepts = None
+            self.run_it()
+            self.assertEqual(self.server.ids(), whole)
+
 
 class Messages(NatsCase):
     def test_each(self) -> None:
@@ -167,13 +177,7 @@ class GoesOn(NatsCase):
         self.run_it()
         whole = self.server.ids()
         self.assertEqual(len(whole), 5 + 6)
-        for accepted in range(len(whole)):
-            self.server.stream, self.server.last, self.server.accepts = None, 0, accepted
-            self.fails(Passing, "the connection is lost|has ended the connection")
-            self.assertEqual(self.server.ids(), whole[:accepted])
-            self.server.accepts = None
-            self.run_it()
-            self.assertEqual(self.server.ids(), whole)
+        self.goes_on_after_each(whole)
 
     def test_again_and_again(self) -> None:
         for number in range(20):
