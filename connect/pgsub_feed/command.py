@@ -5,7 +5,7 @@ import dataclasses
 import re
 import signal
 import sys
-from collections.abc import Callable, Iterator, Sequence
+from collections.abc import Iterator, Sequence
 
 from . import log
 from .column_types import FeedTypes
@@ -25,7 +25,6 @@ from .reader.following import Chosen
 from .reader.polling import Poll
 from .reader.segments import Reader
 from .reader.whole import Whole
-from .relation import Relation
 from .sinks.first_rows import exported
 from .undo.transaction import undo
 
@@ -152,18 +151,18 @@ def settings_of(options: Options) -> Settings:
     return read_settings(options.debezium, options.schemas)
 
 
-def form_of(options: Options, is_chosen: Callable[[Relation], bool], check: Check) -> Format:
+def form_of(options: Options, chosen: Chosen, check: Check) -> Format:
     if options.format == "lines":
         return Lines()
     if options.format == "objects":
-        return ByName(is_chosen)
+        return ByName(chosen)
     known = known_beside(options.feed, options.store)
     if options.format == "debezium":
         types = FeedTypes(options.feed, check)
         envelopes = Envelopes(settings_of(options), known, check, types)
-        return Debezium(is_chosen, envelopes, options.keys)
+        return Debezium(chosen, envelopes, options.keys)
     command = Command(options.on_truncate, check) if options.on_truncate else None
-    return Bulk(is_chosen, options.truncated, known, check, command)
+    return Bulk(chosen, options.truncated, known, check, command)
 
 
 def run(options: Options, check: Check) -> int:

@@ -19,6 +19,7 @@ from pgsub_feed import relation
 from pgsub_feed.errors import FileError, Unfit
 from pgsub_feed.formats.lines import ByName, json_line
 from pgsub_feed.interruption import never
+from pgsub_feed.reader.following import Chosen
 from pgsub_feed.tables.file import Rows
 from pgsub_feed.tables.floats import stored_numeric
 from pgsub_feed.tables.values import (
@@ -489,7 +490,7 @@ class Printed(unittest.TestCase):
             *(relation.Column(name, 701, -1, False) for name in "cde"),
         ]
         told = relation.Relation(1, "public", "t", relation.Shape("f", tuple(columns)))
-        row = ByName(lambda _: True).row(told, ["1.50", "NaN", "Infinity", "-Infinity", "0.5"])
+        row = ByName(Chosen(())).row(told, ["1.50", "NaN", "Infinity", "-Infinity", "0.5"])
         self.assertEqual(
             json_line(row), b'{"a":"1.50","b":"NaN","c":"Infinity","d":"-Infinity","e":0.5}\n'
         )

@@ -20,10 +20,11 @@ from typing import Any, NamedTuple
 
 from .. import log
 from ..column_types import KnownTypes
-from ..formats.lines import Selected, json_line
+from ..formats.lines import json_line
 from ..interruption import Check, never
 from ..known_tables import KnownTables
-from ..reader.commits import XID, Cells, Change, Commit, Head, Message as Logical, Missed
+from ..reader.commits import XID, Cells, Change, Commit, Event, Head, Message as Logical, Missed
+from ..reader.following import Chosen
 from ..reader.segments import Reader
 from ..relation import Relation, TableTypes
 from ..tables.indexes import OTHER, lacking, other_key
@@ -104,7 +105,7 @@ class Envelopes:
         self.counts = collections.Counter[str]()
         self.total = 0
 
-    def messages(self, it: Logical | Change | Missed) -> Iterator[Message]:
+    def messages(self, it: Event) -> Iterator[Message]:
         """Those of a change. One that found no row has none, which is told once."""
         if isinstance(it, Logical):
             yield self.logical(it)
@@ -223,13 +224,11 @@ class Envelopes:
         n = self.commit.changes if is_end else -1
         yield Message(f"{self.settings.prefix}.transaction", key, value, n)
 
-    def of_commit(
-        self, head: Head, commit: Commit, changes: Iterable[Logical | Change | Missed]
-    ) -> Iterator[Message]:
+    def of_commit(self, head: Head, commit: Commit, events: Iterable[Event]) -> Iterator[Message]:
         """All messages of a commit, in order."""
         self.begin(head, commit, commit.base is not None)
         yield from self.boundary(is_end=False)
-        for it in changes:
+        for it in events:
             yield from self.messages(it)
         yield from self.boundary(is_end=True)
 
@@ -282,19 +281,17 @@ class Envelopes:
             log.warning(text)
 
 
-class Debezium(Selected):
+class Debezium:
     """The values, each a line. `with_keys`: also the tombstones, which have none, and before each
     the key and a tab, both empty where there is none."""
 
-    def __init__(
-        self, is_chosen: Callable[[Relation], bool], envelopes: Envelopes, with_keys: bool
-    ) -> None:
-        super().__init__(is_chosen)
-        self.envelopes, self.with_keys = envelopes, with_keys
+    def __init__(self, chosen: Chosen, envelopes: Envelopes, with_keys: bool) -> None:
+        self.chosen, self.envelopes, self.with_keys = chosen, envelopes, with_keys
 
     def print(self, reader: Reader, commit: Commit) -> Iterator[bytes]:
         assert reader.head
-        for it in self.envelopes.of_commit(reader.head, commit, self.all(reader, commit)):
+        events = self.chosen.events(reader.parts(commit))
+        for it in self.envelopes.of_commit(reader.head, commit, events):
             if self.with_keys:
                 yield (it.key or b"") + b"\t" + (it.value or b"") + b"\n"
             elif it.value is not None:

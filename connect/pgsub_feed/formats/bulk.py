@@ -11,13 +11,14 @@ import shlex
 import subprocess
 import sys
 import time
-from collections.abc import Callable, Iterator
+from collections.abc import Iterator
 
 from .. import log
 from ..errors import Passing, Unfit, UsageError
 from ..interruption import Check, never, undone_by
 from ..known_tables import KnownTables
-from ..reader.commits import Change, Commit
+from ..reader.commits import Change, Commit, Missed
+from ..reader.following import Chosen
 from ..reader.segments import Reader
 from ..relation import Relation
 from ..tables.indexes import OTHER, UNKNOWN, lacking, other_key
@@ -74,13 +75,13 @@ class Bulk(Objects):
 
     def __init__(
         self,
-        is_chosen: Callable[[Relation], bool],
+        chosen: Chosen,
         truncated: int | None = None,
         store: KnownTables | None = None,
         check: Check = never,
         command: Command | None = None,
     ) -> None:
-        super().__init__(is_chosen, lambda it: "\\x" + it.hex())
+        super().__init__(chosen)
         self.truncated, self.store, self.check = truncated, store, check
         self.command = command
         self.told = set[str]()
@@ -95,15 +96,13 @@ class Bulk(Objects):
             raise Unfit(f"{commit.text()}: the LSN is above the greatest version of a document")
         self.found.clear()
         left: Documents = {}
-        for it in self.changes(reader, commit):
-            if not isinstance(it, Change):
-                self.tell(
-                    "x",
-                    f"{commit.text()}: a change that found no row is left out, and any later one",
-                )
-            elif it.op == "t":
+        for it in self.chosen.events(reader.parts(commit)):
+            if isinstance(it, Missed):
+                text = "a change that found no row is left out, and any later one"
+                self.tell("x", f"{commit.text()}: {text}")
+            elif isinstance(it, Change) and it.op == "t":
                 self.truncate(commit, it.relation, left)
-            else:
+            elif isinstance(it, Change):
                 self.change(commit, it, left)
         for (index, row_id), row in left.items():
             about = {

@@ -12,12 +12,13 @@ server prints it.
 
 import math
 import re
-from collections.abc import Callable, Iterable, Iterator
+from collections.abc import Iterable, Iterator
 from typing import Any
 
 from ..errors import Unfit
 from ..json_texts import compact
-from ..reader.commits import Cell, Change, Commit, Message, Missed, TableLine, Unsent
+from ..reader.commits import Cell, Change, Commit, Event, Message, Unsent
+from ..reader.following import Chosen
 from ..reader.lines import MOST_DEFINITIONS
 from ..reader.segments import Reader
 from ..relation import Relation
@@ -39,36 +40,11 @@ def json_line(value: object) -> bytes:
     return CONTROLS.sub(lambda it: f"\\u{ord(it[0]):04x}", compact(value)).encode() + b"\n"
 
 
-class Selected:
-    """What prints the changes to the tables that were chosen."""
+class Objects:
+    """Rows as objects, of the tables that are chosen."""
 
-    def __init__(self, is_chosen: Callable[[Relation], bool]) -> None:
-        self.is_chosen = is_chosen
-
-    def changes(self, reader: Reader, commit: Commit) -> Iterator[Change | Missed]:
-        """The changes of a commit."""
-        return (it for it in self.all(reader, commit) if not isinstance(it, Message))
-
-    def all(self, reader: Reader, commit: Commit) -> Iterator[Message | Change | Missed]:
-        """The messages of a commit, and its changes."""
-        chosen = dict[int, bool]()
-        for part in reader.parts(commit):
-            if isinstance(part, Message):
-                yield part
-            elif isinstance(part, TableLine):
-                chosen[part.relation.oid] = self.is_chosen(part.relation)
-            elif chosen[part.relation.oid]:
-                yield part
-
-
-class Objects(Selected):
-    """Rows as objects."""
-
-    def __init__(
-        self, is_chosen: Callable[[Relation], bool], of_bytes: Callable[[bytes], str]
-    ) -> None:
-        super().__init__(is_chosen)
-        self.of_bytes = of_bytes
+    def __init__(self, chosen: Chosen) -> None:
+        self.chosen = chosen
         self.known: dict[int, Valued] = {}
 
     def valued(self, relation: Relation) -> Valued:
@@ -95,11 +71,10 @@ class Objects(Selected):
             value = valued.value(at, cell)
         except Unfit:
             # (the type was altered, and the row is from before)
-            return self.of_bytes(cell) if isinstance(cell, bytes) else cell
+            return f"\\x{cell.hex()}" if isinstance(cell, bytes) else cell
         if isinstance(value, bytes):
-            return (
-                self.of_bytes(value) if kind == BYTEA else value.decode(errors="backslashreplace")
-            )
+            is_text = kind != BYTEA
+            return value.decode(errors="backslashreplace") if is_text else f"\\x{value.hex()}"
         if isinstance(value, float) and math.isinf(value):
             # (JSON hasn't them)
             return printed_float(value, False)
@@ -144,17 +119,14 @@ class ByName(Objects):
     """An object for each message and change, its `id` made of the commit's LSN and its number in
     there."""
 
-    def __init__(self, is_chosen: Callable[[Relation], bool]) -> None:
-        super().__init__(is_chosen, lambda it: "\\x" + it.hex())
-
     def print(self, reader: Reader, commit: Commit) -> Iterator[bytes]:
         about: dict[str, object] = {"xid": commit.xid, "ts_us": commit.ts_us}
-        for it in self.all(reader, commit):
+        for it in self.chosen.events(reader.parts(commit)):
             kind = "m" if isinstance(it, Message) else ""
             number: dict[str, object] = {"id": f"{commit.text()}:{kind}{it.n}"}
             yield json_line(number | about | self.told(it))
 
-    def told(self, it: Message | Change | Missed) -> dict[str, object]:
+    def told(self, it: Event) -> dict[str, object]:
         if isinstance(it, Message):
             where = {"op": "m", "lsn": lsn_text(it.lsn)}
             return {**where, "prefix": it.prefix, "content": content_of(it)}

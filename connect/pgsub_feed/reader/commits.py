@@ -127,6 +127,6 @@ class Missed(NamedTuple):
         return [cell if column.key else UNSENT for column, cell in pairs]
 
 
-# What a commit has of tables, and all of it: its messages come first.
-TablePart = TableLine | Change | Missed
-Part = Message | TablePart
+# What a commit does, and what it has of it beside the definitions: its messages come first.
+Event = Message | Change | Missed
+Part = Event | TableLine

@@ -3,7 +3,7 @@ takes and begins with, and the tables that `--table` names."""
 
 import dataclasses
 import time
-from collections.abc import Callable, Collection, Iterable
+from collections.abc import Callable, Collection, Iterable, Iterator
 from typing import Protocol
 
 from ..errors import Damaged, Passing, Stopped
@@ -11,7 +11,7 @@ from ..interruption import Check
 from ..relation import Relation
 from ..tables.names import names_of
 from ..texts import lsn_text
-from .commits import Commit, Head, Part
+from .commits import Commit, Event, Head, Message, Part, TableLine
 from .folder import Noted, read_confirmed
 from .polling import Parent, Poll
 from .segments import Reader
@@ -61,6 +61,17 @@ class Chosen:
         found = self.names & names_of(relation.namespace, relation.name)
         self.unseen -= found
         return bool(found) or not self.names
+
+    def events(self, parts: Iterable[Part]) -> Iterator[Event]:
+        """The messages of a commit, and its changes of these relations."""
+        chosen = dict[int, bool]()
+        for part in parts:
+            if isinstance(part, Message):
+                yield part
+            elif isinstance(part, TableLine):
+                chosen[part.relation.oid] = self(part.relation)
+            elif chosen[part.relation.oid]:
+                yield part
 
 
 # How long commits wait for others that come to be settled together, in seconds.

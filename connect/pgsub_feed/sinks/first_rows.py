@@ -16,7 +16,7 @@ from ..reader.commits import Cells
 from ..reader.following import Chosen, Reading
 from ..relation import Relation, Shape
 from ..tables.first_rows import EARLIER, first_rows_of
-from ..tables.names import POSITION, names_of
+from ..tables.names import POSITION
 from ..tables.schema import RELATIONS, read_definition
 from ..tables.sqlite_files import is_earlier, is_export, opened
 from ..tables.values import ALL_TEXT
@@ -74,7 +74,7 @@ class Exported(Base):
     """Those of an export."""
 
     def __init__(self, db: sqlite3.Connection, path: str, chosen: tuple[str, ...]) -> None:
-        self.db, self.path, self.chosen = db, path, set(chosen)
+        self.db, self.path, self.chosen = db, path, Chosen(chosen)
         self.lsn = parse_lsn(db.execute(f"SELECT lsn FROM {POSITION}").fetchone()[0])
         self.names = dict[int, str]()
 
@@ -88,7 +88,7 @@ class Exported(Base):
             f"SELECT name, definition FROM {RELATIONS} ORDER BY oid"
         ).fetchall():
             relation, form, primary = read_definition(text)
-            if not self.chosen or self.chosen & names_of(relation.namespace, relation.name):
+            if self.chosen(relation):
                 if form != ALL_TEXT:
                     raise FileError(
                         f"--base {self.path}: its values aren't as the server prints them: make it by `pgsub-connect export --text`"

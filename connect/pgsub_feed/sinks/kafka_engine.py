@@ -23,7 +23,7 @@ from ..errors import TooLarge, Unfit
 from ..interruption import Check
 from ..json_texts import Unreadable, lsn_of, object_of, parsed, whole_of
 from ..known_tables import KnownTables
-from ..reader.commits import Change, Commit, Message as Logical, Missed, TableLine
+from ..reader.commits import Change, Commit
 from ..reader.following import Chosen, Read
 from ..texts import lsn_text, shortened
 from .engine import Alone, Engine, Wanted, read_about, whole
@@ -131,15 +131,9 @@ class Kafka(Engine):
         self.end = commit.end
 
     def messages(self, commit: Commit, read: Read) -> Iterator[Message]:
-        for message in self.envelopes.of_commit(self.head, commit, self.changes(read)):
+        events = self.chosen.events(read())
+        for message in self.envelopes.of_commit(self.head, commit, events):
             yield self.sized(message, commit.end)
-
-    def changes(self, read: Read) -> Iterator[Logical | Change | Missed]:
-        for part in read():
-            if isinstance(part, Logical):
-                yield part
-            elif not isinstance(part, TableLine) and self.chosen(part.relation):
-                yield part
 
     def sized(self, message: Message, lsn: int) -> Message:
         """Rejects a message that is too large, before anything of its commit is sent."""

@@ -14,7 +14,7 @@ from collections.abc import Iterator
 from .. import log
 from ..errors import Passing, TooLarge, Unfit
 from ..interruption import Check, rest
-from ..reader.commits import Commit, Message, TableLine
+from ..reader.commits import Commit
 from ..reader.following import Chosen, Read
 from ..texts import lsn_text, shortened
 from .engine import Engine, Trail, Wanted, whole
@@ -147,12 +147,10 @@ class Nats(Engine):
         """A commit's messages that aren't there yet, none where one of them is too large."""
         after = self.part[1] if self.part else FIRST
         is_known = after == FIRST
-        for part in read():
-            if isinstance(part, TableLine) or (place := place_of(part)) < after:
+        for it in self.chosen.events(read()):
+            if (place := place_of(it)) < after:
                 continue
-            if not isinstance(part, Message) and not self.chosen(part.relation):
-                continue
-            message = message_of(self.name, commit, part)
+            message = message_of(self.name, commit, it)
             if place > after:
                 yield self.sized(message)
             else:

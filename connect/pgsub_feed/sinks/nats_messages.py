@@ -18,7 +18,7 @@ from typing import Any, NamedTuple
 
 from ..formats.keys import base_entry, content_of, entry, subject
 from ..json_texts import compact, lsn_of, object_of, parsed, whole_of
-from ..reader.commits import Cells, Change, Commit, Message, Missed
+from ..reader.commits import Cells, Commit, Event, Message
 from ..relation import Relation
 from ..texts import lsn_text, parse_lsn
 from .engine import read_about
@@ -79,11 +79,11 @@ def row_message(
     return Said(to, id, f"{{{body}}}".encode(), f"a change of {relation.text()}")
 
 
-def place_of(it: Message | Change | Missed) -> Place:
+def place_of(it: Event) -> Place:
     return not isinstance(it, Message), it.n
 
 
-def message_of(stream: str, commit: Commit, it: Message | Change | Missed) -> Said:
+def message_of(stream: str, commit: Commit, it: Event) -> Said:
     """That of a logical message, or of a change."""
     if isinstance(it, Message):
         where: dict[str, object] = {

@@ -16,10 +16,10 @@ from ..interruption import Check, never
 from ..json_texts import list_of, object_of, oid_of, parsed, text_of
 from ..known_tables import KnownTables
 from ..reader.commits import Change, Missed
+from ..reader.following import Chosen
 from ..reader.lines import read_relation
 from ..relation import Relation
 from ..tables.indexes import OTHER, UNKNOWN, lacking, other_key
-from ..tables.names import names_of
 from ..tables.schema import relation_text
 from ..tables.set_aside import cure
 
@@ -82,7 +82,7 @@ class Relations:
         known: KnownTables | None = None,
         check: Check = never,
     ) -> None:
-        self.chosen, self.is_keyed_only, self.holder = set(chosen), is_keyed_only, holder
+        self.chosen, self.is_keyed_only, self.holder = Chosen(chosen), is_keyed_only, holder
         self.known, self.check = known, check
         self.told = set[tuple[int, str]]()
         self.load("")
@@ -191,7 +191,7 @@ class Relations:
         return has
 
     def leaves_out(self, relation: Relation, primary: tuple[str, ...]) -> bool:
-        if self.chosen and not self.chosen & names_of(relation.namespace, relation.name):
+        if not self.chosen(relation):
             return True
         is_bag = self.is_keyed_only and not key_of(relation, primary)
         if is_bag:

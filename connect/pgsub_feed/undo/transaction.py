@@ -13,7 +13,7 @@ from .. import log
 from ..errors import Unfit
 from ..formats.keys import key_of
 from ..interruption import Check
-from ..reader.commits import XID, Cell, Change, Commit, Message, Missed, TableLine
+from ..reader.commits import XID, Cell, Change, Commit, Missed
 from ..reader.following import Chosen
 from ..reader.polling import Poll
 from ..reader.segments import Reader
@@ -182,25 +182,17 @@ def row_line(t: int, it: Changed) -> str:
 class Undoing:
     """Collects what commits have made of rows, and makes the SQL that takes it back."""
 
-    def __init__(self, is_chosen: Callable[[Relation], bool], begin: int, end: int) -> None:
-        self.is_chosen, self.begin, self.end = is_chosen, begin, end
+    def __init__(self, chosen: Chosen, begin: int, end: int) -> None:
+        self.chosen, self.begin, self.end = chosen, begin, end
         self.nets: dict[int, Net] = {}
 
     def take(self, reader: Reader, commit: Commit) -> None:
-        chosen = dict[int, bool]()
-        for part in reader.parts(commit):
-            if isinstance(part, Message):
-                continue
-            relation = part.relation
-            if isinstance(part, TableLine):
-                chosen[relation.oid] = self.is_chosen(relation)
-            elif not chosen[relation.oid]:
-                continue
-            elif isinstance(part, Missed):
-                what = f"{commit.text()}:{part.n}: a change of {relation.text()}"
+        for it in self.chosen.events(reader.parts(commit)):
+            if isinstance(it, Missed):
+                what = f"{commit.text()}:{it.n}: a change of {it.relation.text()}"
                 log.warning(f"{what} isn't taken back: the copy didn't have its row")
-            else:
-                self.change(commit, part)
+            elif isinstance(it, Change):
+                self.change(commit, it)
 
     def change(self, commit: Commit, it: Change) -> None:
         relation, where = it.relation, commit.text()
