@@ -1522,8 +1522,8 @@ BUGS = (
     Bug(
         "a base that is begun again has the ids of the one before",
         "pgsub_feed/sinks/nats_engine.py",
-        "secrets.token_hex(4), 0",
-        "'0' * 8, 0",
+        "base:{secrets.token_hex(4)}:",
+        "base:00000000:",
         ("test_sink_nats",),
     ),
     Bug(

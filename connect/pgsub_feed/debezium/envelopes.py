@@ -32,8 +32,6 @@ from . import logical_messages
 from .settings import TOMBSTONES, TRANSACTIONS, Settings
 from .tables import Moment, Source, Table, field, schema_text, versioned
 
-# The op of a row that was there before the first commit.
-BASE = "r"
 ID = [field("id", "string", False)]
 TRANSACTION_KEY = schema_text(
     versioned("io.debezium.connector.common.TransactionMetadataKey", 1, ID)
@@ -123,14 +121,8 @@ class Envelopes:
         elif it.op == "d":
             yield from self.deletion(table, before, it)
         else:
-            key = before if it.op == "d" else after
             is_to_all = it.op == "t"
-            yield self.envelope(table, key, it.op, it.before, it.after, it.n, is_to_all=is_to_all)
-
-    def row(self, relation: Relation, row: Cells, n: int) -> Message:
-        """That of a row that was there before."""
-        table = self.table(relation)
-        return self.envelope(table, self.key(table, n, row), BASE, None, row, n)
+            yield self.envelope(table, after, it.op, it.before, it.after, it.n, is_to_all=is_to_all)
 
     def deletion(self, table: Table, key: bytes | None, it: Change) -> Iterator[Message]:
         yield self.envelope(table, key, "d", it.before, None, it.n)

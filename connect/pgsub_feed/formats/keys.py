@@ -17,7 +17,7 @@ from collections.abc import Collection, Sequence
 from typing import Optional
 
 from ..json_texts import compact
-from ..reader.commits import Cell, Cells, Change, Message, Missed, Unsent
+from ..reader.commits import Cell, Change, Message, Missed, Unsent
 from ..relation import Relation
 
 NULL = "%null"
@@ -75,10 +75,6 @@ def subject(stream: str, schema: str, table: str) -> str:
     return f"{stream}.{escaped(full(schema), OF_TOKEN)}.{escaped(table, OF_TOKEN)}"
 
 
-# The op of a row that was there before the first commit.
-BASE = "r"
-
-
 def object_text(relation: Relation, cells: Sequence[Cell | Unsent]) -> str:
     """A row, without cells that weren't sent."""
     named = zip(relation.shape.columns, cells, strict=True)
@@ -108,7 +104,3 @@ def entry(it: Change | Missed) -> dict[str, str]:
         "oid": str(it.relation.oid),
         **{name: object_text(it.relation, row) for name, row in rows.items() if row is not None},
     }
-
-
-def base_entry(relation: Relation, row: Cells) -> dict[str, str]:
-    return {"op": BASE, "oid": str(relation.oid), "after": object_text(relation, row)}

@@ -98,9 +98,13 @@ class TableLine(NamedTuple):
     relation: Relation
 
 
+# The op of a row from before the first commit.
+BASE = "r"
+
+
 class Change(NamedTuple):
-    """A change: `op` is c, u, d or t, for an insert, an update, a delete and a truncation, r of a row
-    from before the first commit; the rows are whole."""
+    """A change: `op` is c, u, d or t, for an insert, an update, a delete and a truncation, or BASE;
+    the rows are whole."""
 
     op: str
     relation: Relation

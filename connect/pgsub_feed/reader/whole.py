@@ -11,13 +11,10 @@ from ..json_texts import compact
 from ..tables.schema import table_line
 from ..texts import lsn_text
 from .base import FirstRows, Section, base_of_feed
-from .commits import Commit, Part, TableLine
+from .commits import BASE, Commit, Part, TableLine
 from .folder import segments
 from .lines import as_change
 from .segments import Reader, read_source
-
-# The op of a row from before.
-BASE = "r"
 
 
 class Sections:

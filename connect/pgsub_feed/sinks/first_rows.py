@@ -12,7 +12,7 @@ from ..files import own_name, remove
 from ..interruption import Check
 from ..log import Meter
 from ..reader.base import BaseFiles, Section, Span
-from ..reader.commits import Cells
+from ..reader.commits import BASE, Cells, Change
 from ..reader.following import Chosen, Reading
 from ..relation import Relation, Shape
 from ..tables.first_rows import EARLIER, first_rows_of
@@ -63,11 +63,11 @@ class OfFeed(Base):
             yield row
 
 
-def numbered(base: Base, relations: Iterable[Relation]) -> Iterator[tuple[Relation, int, Cells]]:
-    """The rows of some of its tables with their numbers."""
+def numbered(base: Base, relations: Iterable[Relation], first: int = 0) -> Iterator[Change]:
+    """The rows of some of its tables as changes, numbered from that on."""
     rows = ((relation, row) for relation in relations for row in base.rows(relation))
-    for n, (relation, row) in enumerate(rows):
-        yield relation, n, row
+    for n, (relation, row) in enumerate(rows, first):
+        yield Change(BASE, relation, n, None, row)
 
 
 class Exported(Base):

@@ -115,10 +115,11 @@ class Kafka(Engine):
             for message in self.envelopes.messages(Change("t", relation, n, None, None)):
                 self.send(message, base.lsn)
             n += 1
-        for relation, at, row in numbered(base, tables):
-            if not at % 1000:
+        for it in numbered(base, tables, n):
+            if not it.n % 1000:
                 self.check()
-            self.send(self.sized(self.envelopes.row(relation, row, n + at), base.lsn), base.lsn)
+            for message in self.envelopes.messages(it):
+                self.send(self.sized(message, base.lsn), base.lsn)
         self.end, self.left = base.lsn, None
         self.settle(is_sure=True)
 

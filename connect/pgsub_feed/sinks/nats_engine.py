@@ -26,7 +26,6 @@ from .nats_messages import (
     Place,
     Read as ReadId,
     Said,
-    base_message,
     last_message,
     message_of,
     place_of,
@@ -122,13 +121,13 @@ class Nats(Engine):
     def begin(self, base: Base) -> None:
         if self.has_left:
             self.remove_left()
-        number, rows = secrets.token_hex(4), 0
-        for relation, n, row in numbered(base, base.tables()):
-            if not n % 1000:
+        commit, front, rows = Commit(base.lsn, base.lsn, 0, 0), f"base:{secrets.token_hex(4)}:", 0
+        for it in numbered(base, base.tables()):
+            if not it.n % 1000:
                 self.check()
-            self.publish(self.sized(base_message(self.name, relation, base.lsn, number, n, row)))
-            rows = n + 1
-        self.publish(last_message(self.name, Commit(base.lsn, base.lsn, 0, 0), self.about, rows))
+            self.publish(self.sized(message_of(self.name, commit, it, front)))
+            rows = it.n + 1
+        self.publish(last_message(self.name, commit, self.about, rows))
         self.end = base.lsn
         self.settle()
         if self.has_left:

@@ -16,10 +16,9 @@ import json
 import re
 from typing import Any, NamedTuple
 
-from ..formats.keys import base_entry, content_of, entry, subject
+from ..formats.keys import content_of, entry, subject
 from ..json_texts import compact, lsn_of, object_of, parsed, whole_of
-from ..reader.commits import Cells, Commit, Event, Message
-from ..relation import Relation
+from ..reader.commits import Commit, Event, Message
 from ..texts import lsn_text, parse_lsn
 from .engine import read_about
 
@@ -63,28 +62,12 @@ def read_id(text: str) -> Read | None:
         return None
 
 
-def row_message(
-    stream: str, relation: Relation, lsn: int, n: int, id: str, told: dict[str, str]
-) -> Said:
-    fields = {
-        "end": f'"{lsn_text(lsn)}"',
-        "n": str(n),
-        "op": f'"{told["op"]}"',
-        "schema": json.dumps(relation.namespace or "pg_catalog"),
-        "table": json.dumps(relation.name),
-        **{name: it for name, it in told.items() if name != "op"},
-    }
-    body = ",".join(f'"{name}":{it}' for name, it in fields.items())
-    to = subject(stream, relation.namespace, relation.name)
-    return Said(to, id, f"{{{body}}}".encode(), f"a change of {relation.text()}")
-
-
 def place_of(it: Event) -> Place:
     return not isinstance(it, Message), it.n
 
 
-def message_of(stream: str, commit: Commit, it: Event) -> Said:
-    """That of a logical message, or of a change."""
+def message_of(stream: str, commit: Commit, it: Event, front: str = "") -> Said:
+    """That of a logical message, or of a change. `front`: what its id has before the number."""
     if isinstance(it, Message):
         where: dict[str, object] = {
             "end": commit.text(),
@@ -95,14 +78,18 @@ def message_of(stream: str, commit: Commit, it: Event) -> Said:
         payload = compact(where | {"prefix": it.prefix, "content": content_of(it)}).encode()
         about = f"the message {it.n}, {it.prefix!r},"
         return Said(f"{stream}.{MESSAGE}", f"{commit.text()}:m{it.n}", payload, about)
-    return row_message(stream, it.relation, commit.end, it.n, f"{commit.text()}:{it.n}", entry(it))
-
-
-def base_message(
-    stream: str, relation: Relation, lsn: int, number: str, n: int, row: Cells
-) -> Said:
-    id = f"{lsn_text(lsn)}:base:{number}:{n}"
-    return row_message(stream, relation, lsn, n, id, base_entry(relation, row))
+    relation, told = it.relation, entry(it)
+    fields = {
+        "end": f'"{commit.text()}"',
+        "n": str(it.n),
+        "op": f'"{told.pop("op")}"',
+        "schema": json.dumps(relation.namespace or "pg_catalog"),
+        "table": json.dumps(relation.name),
+        **told,
+    }
+    body = ",".join(f'"{name}":{text}' for name, text in fields.items())
+    to, id = subject(stream, relation.namespace, relation.name), f"{commit.text()}:{front}{it.n}"
+    return Said(to, id, f"{{{body}}}".encode(), f"a change of {relation.text()}")
 
 
 def last_message(

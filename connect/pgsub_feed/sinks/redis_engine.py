@@ -26,11 +26,11 @@ from ..errors import EngineError, Passing, Stopped, Unfit
 from ..interruption import Check, at_most, never
 from ..json_texts import list_of, parsed, text_of
 from ..known_tables import KnownTables
-from ..reader.commits import Cells, Change, Commit, Message, Missed, TableLine
+from ..reader.commits import Change, Commit, Message, Missed, TableLine
 from ..reader.following import Read
 from ..texts import lsn_text, parse_lsn, shortened
 from .engine import Engine, Wanted
-from .first_rows import Base
+from .first_rows import Base, numbered
 from .redis_calls import Calls, Command, Said, asked, raised, understood
 from .redis_disk import Disk, fields
 from .relations import Holder, Kept, Relations
@@ -51,11 +51,8 @@ class Form(Holder):
     name: str
     is_keyed_only: bool
 
-    def put(self, kept: Kept, row: Cells, n: int, lsn: int) -> None:
-        """A row of a base, the n-th of its table."""
-
     def change(self, kept: Kept, it: Change | Missed, commit: Commit) -> None:
-        """A change of a commit."""
+        """A change of a commit, or a row of a base."""
 
     def message(self, it: Message, commit: Commit) -> None:
         """A message of a commit."""
@@ -280,8 +277,9 @@ class Redis(Engine):
 
     def load(self, base: Base, kept: Kept) -> None:
         """Writes a table's rows, in parts."""
-        for n, row in enumerate(base.rows(kept.relation)):
-            self.form.put(kept, row, n, base.lsn)
+        commit = Commit(base.lsn, base.lsn, 0, 0)
+        for it in numbered(base, [kept.relation]):
+            self.form.change(kept, it, commit)
             if self.form.size() >= MOST:
                 self.check()
                 self.transact(self.commands(), self.lsn)

@@ -85,10 +85,7 @@ class Hashes(Form):
 
     # ---- rows
 
-    def put(self, kept: Kept, row: Cells, n: int, lsn: int) -> None:
-        self.add(kept, row)
-
-    def add(self, kept: Kept, cells: Cells, is_repair: bool = False) -> None:
+    def add(self, kept: Kept, cells: Cells, is_repair: bool) -> None:
         key = key_text(kept, cells)
         if kept.primary and not is_repair:
             if self.waiting.get(key) is not None or any(cells[at] is None for at in kept.key):

@@ -4,8 +4,8 @@ ends and its number in there; and one for the logical messages, with their numbe
 from collections.abc import Iterable, Iterator, Mapping
 
 from ..errors import Unfit
-from ..formats.keys import base_entry, entry
-from ..reader.commits import Cells, Change, Commit, Message, Missed
+from ..formats.keys import entry
+from ..reader.commits import Change, Commit, Message, Missed
 from ..texts import lsn_text
 from .redis_calls import Calls, Command, Said, raised, understood
 from .redis_engine import Form
@@ -39,9 +39,6 @@ class Streams(Form):
         self.waiting.append(
             ("XADD", stream, f"{lsn}-{n}", *(it for pair in told.items() for it in pair))
         )
-
-    def put(self, kept: Kept, row: Cells, n: int, lsn: int) -> None:
-        self.add(kept.name, lsn, n, base_entry(kept.relation, row))
 
     def change(self, kept: Kept, it: Change | Missed, commit: Commit) -> None:
         self.add(kept.name, commit.end, it.n, entry(it))
