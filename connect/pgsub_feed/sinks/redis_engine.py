@@ -19,7 +19,7 @@ import os
 import secrets
 import socket
 import time
-from collections.abc import Collection, Iterable, Iterator, Sequence
+from collections.abc import Collection, Iterable, Iterator, Sequence, Sized
 from typing import Any, Optional
 
 from ..errors import EngineError, Passing, Stopped, Unfit
@@ -50,16 +50,14 @@ class Form(Holder):
 
     name: str
     is_keyed_only: bool
+    # what waits, each of it about one command
+    waiting: Sized
 
     def change(self, kept: Kept, it: Change | Missed, commit: Commit) -> None:
         """A change of a commit, or a row of a base."""
 
     def message(self, it: Message, commit: Commit) -> None:
         """A message of a commit."""
-
-    def size(self) -> int:
-        """About how many commands wait."""
-        raise NotImplementedError
 
     def watched(self) -> list[str]:
         """The keys beside those of the sink that decide whether the commands can be run."""
@@ -280,7 +278,7 @@ class Redis(Engine):
         commit = Commit(base.lsn, base.lsn, 0, 0)
         for it in numbered(base, [kept.relation]):
             self.form.change(kept, it, commit)
-            if self.form.size() >= MOST:
+            if len(self.form.waiting) >= MOST:
                 self.check()
                 self.transact(self.commands(), self.lsn)
                 self.form.clear()
@@ -307,7 +305,7 @@ class Redis(Engine):
             if kept:
                 self.form.change(kept, part, commit)
         self.end = commit.end
-        if self.form.size() >= MOST:
+        if len(self.form.waiting) >= MOST:
             self.settle()
 
     def settle(self) -> None:

@@ -6,6 +6,7 @@ that is truncated, gets another name or another shape are looked for among all k
 """
 
 import dataclasses
+import itertools
 import re
 from collections.abc import Collection, Iterable, Iterator, Sequence
 from typing import Union
@@ -19,8 +20,6 @@ from .relations import Kept
 
 # How many keys one command has, and one step of a search looks at.
 KEYS, LOOKED = 500, 1000
-# What a row has in the place of values where all are null, since there are no empty hashes.
-EMPTY = ("", "")
 MOVING = "pgsub:moving:"
 SIGNS = re.compile(r"([][*?^\\-])")
 
@@ -33,20 +32,17 @@ class Stored:
     dropped: tuple[str, ...] = ()
 
 
-# Names and values in turn.
-Fields = tuple[Union[str, bytes], ...]
+# Values by the names of their columns.
+Fields = dict[str, Union[str, bytes]]
+# What a row has in the place of values where all are null, since there are no empty hashes.
+EMPTY: Fields = {"": ""}
 # What is under a key: no row, a new one, or one that was there.
 Value = Union[Fields, Stored, None]
 
 
 def fields_of(kept: Kept, cells: Sequence[Cell]) -> Fields:
-    found = tuple(
-        it
-        for name, cell in zip(kept.columns, cells, strict=True)
-        if cell is not None
-        for it in (name, cell)
-    )
-    return found or EMPTY
+    named = zip(kept.columns, cells, strict=True)
+    return {name: cell for name, cell in named if cell is not None} or EMPTY
 
 
 def key_text(kept: Kept, cells: Sequence[Cell]) -> str:
@@ -60,7 +56,7 @@ class Hashes(Form):
 
     def __init__(self, calls: Calls) -> None:
         self.calls = calls
-        self.waiting = dict[str, Value]()
+        self.waiting: dict[str, Value] = {}
         # of tables whose key may not hold, by OID: keys that no row may have had before what waits,
         # and the tables in which two rows have one, or null in it
         self.free = dict[int, set[str]]()
@@ -69,9 +65,6 @@ class Hashes(Form):
         self.emptied = dict[int, int]()
         # what keys that were there before began with
         self.foreign = set[str]()
-
-    def size(self) -> int:
-        return len(self.waiting)
 
     def clear(self) -> None:
         self.waiting.clear()
@@ -197,11 +190,11 @@ class Hashes(Form):
 
     def rekeyed(self, old: Kept, new: Kept, value: Stored | Fields) -> tuple[str, Stored | Fields]:
         """A row's key and fields in another shape."""
-        found = dict(zip(value[::2], value[1::2])) if isinstance(value, tuple) else self.read(value)
+        found = self.read(value) if isinstance(value, Stored) else value
         cells: Cells = [found.get(name) if name in old.columns else None for name in new.columns]
         return key_text(new, cells), fields_of(new, cells)
 
-    def read(self, value: Stored) -> dict[str | bytes, str | bytes]:
+    def read(self, value: Stored) -> Fields:
         """A row that is stored."""
         (said,) = asked(self.calls, [("HGETALL", value.key)])
         with understood(self.calls.where):
@@ -225,8 +218,8 @@ class Hashes(Form):
         commands += unlinks([key for key, it in waiting.items() if not isinstance(it, Stored)])
         commands += [("RENAME", f"{MOVING}{at}", key) for at, (key, _) in enumerate(moved)]
         for key, it in waiting.items():
-            if isinstance(it, tuple):
-                commands.append(("HSET", key, *it))
+            if isinstance(it, dict):
+                commands.append(("HSET", key, *itertools.chain.from_iterable(it.items())))
             elif it and it.dropped:
                 commands.append(("HDEL", key, *it.dropped))
         return commands
@@ -241,13 +234,7 @@ def without(value: Stored | Fields, dropped: tuple[str, ...]) -> Stored | Fields
     """A row without some of its fields."""
     if isinstance(value, Stored):
         return Stored(value.key, tuple({*value.dropped, *dropped}))
-    left = tuple(
-        it
-        for name, cell in zip(value[::2], value[1::2])
-        if name not in dropped
-        for it in (name, cell)
-    )
-    return left or EMPTY
+    return {name: cell for name, cell in value.items() if name not in dropped} or EMPTY
 
 
 def text_of(cell: bytes) -> str | bytes:

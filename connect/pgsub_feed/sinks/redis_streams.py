@@ -23,12 +23,9 @@ class Streams(Form):
 
     def __init__(self, calls: Calls) -> None:
         self.calls = calls
-        self.waiting = list[Command]()
+        self.waiting: list[Command] = []
         # by stream the first id of what waits
         self.first = dict[str, tuple[int, int]]()
-
-    def size(self) -> int:
-        return len(self.waiting)
 
     def clear(self) -> None:
         self.waiting.clear()
