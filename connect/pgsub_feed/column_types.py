@@ -59,14 +59,12 @@ def column_of(said: Written) -> ColumnType:
     base = None
     if "base" in said:
         name, oid, modifier = json_texts.list_of(said["base"])
-        base = BaseType(json_texts.text_of(name), json_texts.oid_of(oid), signed(modifier))
+        base = BaseType(
+            json_texts.text_of(name), json_texts.oid_of(oid), json_texts.signed_of(modifier)
+        )
     labels = map(json_texts.text_of, json_texts.list_of(said.get("labels", [])))
     name, not_null = json_texts.text_of(said["type"]), json_texts.flag_of(said["not_null"])
     return ColumnType(name, not_null, tuple(labels), base)
-
-
-def signed(value: object) -> int:
-    return json_texts.whole_of(value, -(1 << 31), 1 << 31)
 
 
 def entry_of(said: Written) -> Entry:
@@ -74,7 +72,8 @@ def entry_of(said: Written) -> Entry:
     known, columns = set[Known](), dict[str, ColumnType]()
     for it in map(json_texts.object_of, json_texts.list_of(said["columns"])):
         name = json_texts.text_of(it["name"])
-        known.add((name, json_texts.oid_of(it["oid"]), signed(it["modifier"])))
+        modifier = json_texts.signed_of(it["modifier"])
+        known.add((name, json_texts.oid_of(it["oid"]), modifier))
         columns[name] = column_of(it)
     primary = tuple(map(json_texts.text_of, json_texts.list_of(said["primary"])))
     return Entry(json_texts.lsn_of(said["from"]), frozenset(known), TableTypes(columns, primary))

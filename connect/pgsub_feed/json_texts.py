@@ -7,15 +7,17 @@ import json
 import math
 import os
 import stat
-from typing import Any, NoReturn
+from collections.abc import Callable
+from typing import Any, NoReturn, TypeVar
 
 from .texts import parse_lsn
 
 # How deep objects and lists may lie in each other, and how many bytes a text may have; one of what
 # is remembered of all tables grows with these.
 DEEPEST, LONGEST, LARGEST = 50, 16 << 20, 1 << 30
-# The greatest LSN, time or OID's count.
-GREATEST = (1 << 64) - 1
+# The greatest LSN, time or count, and the greatest OID.
+GREATEST, GREATEST_OID = (1 << 64) - 1, (1 << 32) - 1
+Value = TypeVar("Value")
 
 
 class Unreadable(ValueError):
@@ -60,22 +62,21 @@ def outer_of(value: dict[str, Any] | list[Any]) -> list[Any]:
     return [it for it in within if isinstance(it, (dict, list))]
 
 
-def object_of(value: Any) -> dict[str, Any]:
-    if not isinstance(value, dict):
-        raise Unreadable("no object")
-    return value
+def reader_of(kind: type[Value], what: str) -> Callable[[Any], Value]:
+    """What takes values of a kind; an Unreadable says what any other one is."""
+
+    def read(value: Any) -> Value:
+        if not isinstance(value, kind):
+            raise Unreadable(what)
+        return value
+
+    return read
 
 
-def list_of(value: Any) -> list[Any]:
-    if not isinstance(value, list):
-        raise Unreadable("no list")
-    return value
-
-
-def text_of(value: Any) -> str:
-    if not isinstance(value, str):
-        raise Unreadable("no text")
-    return value
+object_of: Callable[[Any], dict[str, Any]] = reader_of(dict, "no object")
+list_of: Callable[[Any], list[Any]] = reader_of(list, "no list")
+text_of = reader_of(str, "no text")
+flag_of = reader_of(bool, "neither true nor false")
 
 
 def whole_of(value: Any, least: int = 0, most: int = GREATEST) -> int:
@@ -91,17 +92,16 @@ def number_of(value: Any) -> float:
     return float(value)
 
 
-def flag_of(value: Any) -> bool:
-    if not isinstance(value, bool):
-        raise Unreadable("neither true nor false")
-    return value
+def signed_of(value: Any) -> int:
+    """A number of 32 bits."""
+    return whole_of(value, -(1 << 31), 1 << 31)
 
 
 def oid_of(value: Any) -> int:
     """An OID, as a number or as the name of an object's field."""
     if isinstance(value, str) and value.isascii() and value.isdecimal() and len(value) <= 10:
         value = int(value)
-    return whole_of(value, 0, (1 << 32) - 1)
+    return whole_of(value, most=GREATEST_OID)
 
 
 def lsn_of(value: Any) -> int:

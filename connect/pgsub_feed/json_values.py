@@ -16,7 +16,8 @@ import typing
 from collections.abc import Callable
 from typing import Annotated, Any, NamedTuple
 
-from .json_texts import Unreadable, flag_of, list_of, lsn_of, object_of, oid_of, text_of, whole_of
+from . import json_texts
+from .json_texts import Unreadable, list_of, object_of
 from .texts import is_utf_8, lsn_text
 
 
@@ -28,15 +29,15 @@ class Form(NamedTuple):
 
 
 def read_text(value: Any) -> str:
-    if not is_utf_8(text_of(value)):
+    if not is_utf_8(json_texts.text_of(value)):
         raise Unreadable("a text that isn't UTF-8")
     return str(value)
 
 
-PLAIN = {str: Form(read_text), bool: Form(flag_of), int: Form(whole_of)}
-Signed = Annotated[int, Form(lambda it: whole_of(it, -(1 << 31), 1 << 31))]
-Oid = Annotated[int, Form(oid_of)]
-Lsn = Annotated[int, Form(lsn_of, lsn_text)]
+PLAIN = {str: Form(read_text), bool: Form(json_texts.flag_of), int: Form(json_texts.whole_of)}
+Signed = Annotated[int, Form(json_texts.signed_of)]
+Oid = Annotated[int, Form(json_texts.oid_of)]
+Lsn = Annotated[int, Form(json_texts.lsn_of, lsn_text)]
 UNKEPT = "unkept"
 
 

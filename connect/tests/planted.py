@@ -1844,8 +1844,8 @@ BUGS = (
     Bug(
         "a feed of another format is read",
         "pgsub_feed/reader/lines.py",
-        'if natural(found["feed"]) != FORMAT:',
-        'if natural(found["feed"]) > FORMAT:',
+        'if (form := whole_of(found.get("feed"))) != FORMAT:',
+        'if (form := whole_of(found.get("feed"))) > FORMAT:',
         ("test_feed_reading", "test_piping"),
     ),
     Bug(

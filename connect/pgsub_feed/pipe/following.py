@@ -14,23 +14,22 @@ from typing import Generic, TypeVar
 from .. import errors, log
 from ..column_types import KnownTypes
 from ..interruption import Check, rest
+from ..json_texts import lsn_of, whole_of
 from ..reader.base import sections_of
 from ..reader.commits import Closing, Commit, Head, Part
 from ..reader.lines import (
     Decoder,
-    natural,
     no_head,
     read_commit,
     read_head,
     read_object,
     shown,
     summed,
-    text,
     whole_lines,
 )
 from ..reader.polling import PATIENCE
 from ..reader.whole import parts_of
-from ..texts import lsn_text, parse_lsn
+from ..texts import lsn_text
 from .pipes import Cut, Pipes
 
 SCHEME = "ssh://"
@@ -173,7 +172,7 @@ class Remote(Generic[Read]):
     def take_types(self, pipes: Pipes, line: bytes) -> None:
         """Takes what the commits that follow may need of the catalog."""
         try:
-            self.types.take(b"".join(pipes.pieces(natural(read_object(line)["bytes"]))))
+            self.types.take(b"".join(pipes.pieces(whole_of(read_object(line)["bytes"]))))
         except (KeyError, ValueError) as error:
             told = f"this says nothing of types: {error}: {shown(line)}"
             raise self.damaged(errors.LINE, told) from None
@@ -202,8 +201,8 @@ class Remote(Generic[Read]):
         """Some rows from before the first commit, of who has none."""
         try:
             found = read_object(line)
-            ends = [parse_lsn(text(found[it])) for it in ("base", "end")]
-            counts = [natural(found[it]) for it in ("bytes", "rows", "n")]
+            ends = [lsn_of(found[it]) for it in ("base", "end")]
+            counts = [whole_of(found[it]) for it in ("bytes", "rows", "n")]
         except (KeyError, ValueError):
             told = f"this is no line of first rows: {shown(line)}"
             raise self.damaged(errors.COMMIT_LINE, told) from None

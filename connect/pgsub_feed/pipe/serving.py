@@ -7,7 +7,7 @@ from ..errors import Damaged, Failure, Stopped, UsageError
 from ..formats.lines import Told
 from ..interruption import Check
 from ..json_texts import compact
-from ..reader.commits import Commit, Head
+from ..reader.commits import HEAD, Commit, Head
 from ..reader.folder import noted_of
 from ..reader.lines import DEFINITION, FORMAT, MOST_DEFINITIONS, parsed, read_relation
 from ..reader.polling import Poll
@@ -22,8 +22,7 @@ MODE = 0o600
 
 def head_line(head: Head) -> bytes:
     """The head of a segment that begins where the feed does."""
-    names = {"system": head.system, "database": head.database, "slot": head.slot}
-    return told(feed=FORMAT, base=lsn_text(head.base), **names)
+    return told(feed=FORMAT, **HEAD.written(head))
 
 
 def told(**more: object) -> bytes:

@@ -15,20 +15,11 @@ from typing import Any, NamedTuple, Protocol
 from ..errors import COUNTS, LINE, NOT_A_FEED, OTHER_FEED, WIDTH, Damaged, FileError, Unfit
 from ..files import NEW
 from ..interruption import Check, undone_by
+from ..json_texts import whole_of
 from ..relation import Relation
-from ..texts import lsn_text, parse_lsn
-from .commits import Cells, Head
-from .lines import (
-    HEAD_SIZE,
-    SENT,
-    natural,
-    parsed,
-    read_object,
-    read_relation,
-    read_whole,
-    shown,
-    text,
-)
+from ..texts import lsn_text
+from .commits import HEAD, Cells, Head
+from .lines import HEAD_SIZE, SENT, parsed, read_object, read_relation, read_whole, shown
 
 FOLDER, FORMAT = "base", 2
 # How much is read at once, in bytes.
@@ -75,10 +66,9 @@ def read_file_head(line: bytes) -> FileHead:
     try:
         if found["base"] != FORMAT:
             raise ValueError
-        names = [text(found[it]) for it in ("system", "database", "slot")]
-        source = Head(parse_lsn(text(found["lsn"])), *names)
-        sizes = natural(found["rows"]), natural(found["bytes"]), natural(found["crc"])
-        return FileHead(source, natural(found["number"]), found["last"] is True, *sizes)
+        source: Head = HEAD.read({**found, "base": found["lsn"]})
+        number, rows, size, crc = (whole_of(found[it]) for it in ("number", "rows", "bytes", "crc"))
+        return FileHead(source, number, found["last"] is True, rows, size, crc)
     except KeyError:
         raise ValueError from None
 

@@ -3,6 +3,7 @@
 import dataclasses
 from typing import NamedTuple
 
+from ..json_values import Lsn, form_of
 from ..relation import Relation
 from ..texts import lsn_text
 
@@ -26,7 +27,7 @@ Cells = list[Cell]
 class Head:
     """The head of a segment: the LSN at which it begins, and what it is a feed of."""
 
-    base: int
+    base: Lsn
     system: str
     database: str
     slot: str
@@ -36,6 +37,10 @@ class Head:
 
     def text(self) -> str:
         return f"slot {self.slot} of database {self.database}, system {self.system}"
+
+
+# How one is written.
+HEAD = form_of(Head)
 
 
 @dataclasses.dataclass(frozen=True)

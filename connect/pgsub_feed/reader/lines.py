@@ -10,10 +10,10 @@ from collections.abc import Callable, Iterable, Iterator, Sequence
 from typing import Any, NoReturn, cast
 
 from ..errors import COUNTS, LINE, UNDESCRIBED, WIDTH, Damaged
+from ..json_texts import GREATEST, GREATEST_OID, lsn_of, object_of, signed_of, text_of, whole_of
 from ..relation import Column, Relation, Shape
-from ..texts import parse_lsn
 from . import commits
-from .commits import UNSENT, Cells, Change, Commit, Head, Message, Missed, Part, TableLine, Unsent
+from .commits import UNSENT, Cells, Change, Commit, Message, Missed, Part, TableLine, Unsent
 
 FORMAT = 4
 # How many bytes the head of a segment has, and the line of a commit, or that which closes a
@@ -61,55 +61,28 @@ def read_object(line: bytes) -> dict[str, Any]:
     """The object that a padded line has. A ValueError says that it is none."""
     if not line.endswith(b"\n"):
         raise ValueError
-    found = parsed(line)
-    if not isinstance(found, dict):
-        raise ValueError
-    return found
+    return object_of(parsed(line))
 
 
-def number(value: object) -> int:
-    if type(value) is not int:
-        raise ValueError
-    return value
-
-
-def natural(value: object) -> int:
-    if number(value) < 0:
-        raise ValueError
-    return number(value)
-
-
-def oid(value: object) -> int:
-    if natural(value) >= 1 << 32:
-        raise ValueError
-    return natural(value)
-
-
-def text(value: object) -> str:
-    if not isinstance(value, str):
-        raise ValueError
-    return value
+oid = functools.partial(whole_of, most=GREATEST_OID)
 
 
 class OtherFormat(ValueError):
     """The head of a segment in another format."""
 
 
-def read_head(line: bytes) -> Head:
+def read_head(line: bytes) -> commits.Head:
     """The head of a segment. A ValueError says that it isn't one, an OtherFormat that it is one of
     another format, and what to do."""
     found = read_object(line)
-    try:
-        if natural(found["feed"]) != FORMAT:
-            age = "an earlier" if found["feed"] < FORMAT else "a later"
-            raise OtherFormat(
-                f"this is a feed of format {found['feed']}, which {age} version writes, and this one reads format {FORMAT}: name an empty"
-                " folder by --feed, with --without-feed, and have its readers begin anew, or go on with that version"
-            )
-        source = (text(found[it]) for it in ("system", "database", "slot"))
-        return Head(parse_lsn(text(found["base"])), *source)
-    except KeyError:
-        raise ValueError from None
+    if (form := whole_of(found.get("feed"))) != FORMAT:
+        age = "an earlier" if form < FORMAT else "a later"
+        raise OtherFormat(
+            f"this is a feed of format {form}, which {age} version writes, and this one reads format {FORMAT}: name an empty"
+            " folder by --feed, with --without-feed, and have its readers begin anew, or go on with that version"
+        )
+    head: commits.Head = commits.HEAD.read(found)
+    return head
 
 
 def read_commit(line: bytes) -> Commit | commits.Closing:
@@ -117,13 +90,13 @@ def read_commit(line: bytes) -> Commit | commits.Closing:
     neither."""
     if plain := PLAIN.fullmatch(line):
         end, prev, size, changes, final, xid, time, crc = plain.groups()
-        about = (lsn_of(final), int(xid), int(time)) if final else (None, None, None)
+        about = (plain_lsn(final), int(xid), int(time)) if final else (None, None, None)
         sums = int(crc), zlib.crc32(line[: plain.start(8) - len(CRC)])
-        return Commit(lsn_of(end), lsn_of(prev), int(size), int(changes), *about, *sums)
+        return Commit(plain_lsn(end), plain_lsn(prev), int(size), int(changes), *about, *sums)
     return read_commit_object(line)
 
 
-def lsn_of(text: bytes) -> int:
+def plain_lsn(text: bytes) -> int:
     high, low = text.split(b"/")
     return (int(high, 16) << 32) + int(low, 16)
 
@@ -134,16 +107,16 @@ def read_commit_object(line: bytes) -> Commit | commits.Closing:
     found = read_object(line)
     try:
         if "last" in found:
-            return commits.Closing(parse_lsn(text(found["last"])))
-        ends = parse_lsn(text(found["end"])), parse_lsn(text(found["prev"]))
-        sizes = natural(found["bytes"]), natural(found["changes"])
+            return commits.Closing(lsn_of(found["last"]))
+        ends = lsn_of(found["end"]), lsn_of(found["prev"])
+        sizes = whole_of(found["bytes"]), whole_of(found["changes"])
         about = found["lsn"], found["xid"], found["ts_us"]
-        sums = natural(found["crc"]), zlib.crc32(line[: line.index(CRC)])
+        sums = whole_of(found["crc"]), zlib.crc32(line[: line.index(CRC)])
     except KeyError:
         raise ValueError from None
     if about == (None, None, None):
         return Commit(*ends, *sizes, None, None, None, *sums)
-    told = parse_lsn(text(about[0])), natural(about[1]), number(about[2])
+    told = lsn_of(about[0]), whole_of(about[1]), whole_of(about[2], -GREATEST)
     return Commit(*ends, *sizes, *told, *sums)
 
 
@@ -151,20 +124,20 @@ def read_relation(found: dict[str, Any]) -> Relation:
     """The line of a definition. A column is one of the key where the line lists its name, in a
     table that has a key."""
     listed = found["key"]
-    keys = {text(it) for it in listed} if listed is not None else set[str]()
+    keys = set(map(text_of, listed)) if listed is not None else set[str]()
     columns = tuple(
-        Column(text(name), oid(kind), number(modifier), name in keys)
+        Column(text_of(name), oid(kind), signed_of(modifier), name in keys)
         for name, kind, modifier in found["columns"]
     )
-    shape = Shape(text(found["identity"]), columns)
-    return Relation(oid(found["oid"]), text(found["schema"]), text(found["table"]), shape)
+    shape = Shape(text_of(found["identity"]), columns)
+    return Relation(oid(found["oid"]), text_of(found["schema"]), text_of(found["table"]), shape)
 
 
 def read_cell(cell: object) -> str | bytes | Unsent | None:
     if cell is None or isinstance(cell, str):
         return cell
     if isinstance(cell, dict) and list(cell) == ["hex"]:
-        return binascii.unhexlify(text(cell["hex"]))
+        return binascii.unhexlify(text_of(cell["hex"]))
     if cell == {"unchanged": True}:
         return UNSENT
     raise ValueError
@@ -217,7 +190,7 @@ def named_by(line: bytes) -> int | None:
     if line.startswith((DEFINITION, MESSAGE)):
         return None
     with contextlib.suppress(KeyError, TypeError, ValueError):
-        return natural(parsed(line)["at"])
+        return whole_of(parsed(line)["at"])
     return None
 
 
@@ -300,12 +273,12 @@ class Decoder:
         if self.described or content is None or isinstance(content, Unsent):
             raise ValueError
         n, self.messages = self.messages, self.messages + 1
-        return Message(parse_lsn(text(found["lsn"])), text(found["prefix"]), content, n)
+        return Message(lsn_of(found["lsn"]), text_of(found["prefix"]), content, n)
 
     def table_of(self, found: dict[str, Any]) -> TableLine:
         """The definition of a change."""
         at = found["at"]
-        table = self.places.get(at) or self.read_table(natural(at))
+        table = self.places.get(at) or self.read_table(whole_of(at))
         if table is None:
             why = f"no definition stands at {at}, where the change says so"
             raise self.fault(UNDESCRIBED, self.offset, why)
@@ -334,7 +307,7 @@ class Decoder:
     def change(self, relation: Relation, found: dict[str, Any]) -> Change | Missed:
         op, n, told = found["op"], self.n, found["n"]
         if told != n or type(told) is not int:
-            number(told)
+            whole_of(told, -GREATEST)
             why = f"the change has number {told}, and is number {n} of its commit"
             raise self.fault(COUNTS, self.offset, why)
         self.n = n + 1
