@@ -26,10 +26,12 @@ A commit with a definition that isn't there yet is given once the follower has l
 
 import os
 import time
+from collections.abc import Callable
 from typing import Any, NamedTuple
 
 from . import json_texts, log
 from .interruption import Check, never
+from .json_values import form_of
 from .reader.commits import Commit
 from .relation import BaseType, ColumnType, Relation, TableTypes
 from .texts import parse_lsn
@@ -41,6 +43,7 @@ PATIENCE, OFTEN = 20.0, 0.05
 Stamp = tuple[int, int, int]
 # By the names of columns.
 Written = dict[str, Any]
+NAMES, BASE = form_of(tuple[str, ...]), form_of(BaseType)
 
 
 # A column's name, type and modifier.
@@ -56,15 +59,9 @@ class Entry(NamedTuple):
 
 
 def column_of(said: Written) -> ColumnType:
-    base = None
-    if "base" in said:
-        name, oid, modifier = json_texts.list_of(said["base"])
-        base = BaseType(
-            json_texts.text_of(name), json_texts.oid_of(oid), json_texts.signed_of(modifier)
-        )
-    labels = map(json_texts.text_of, json_texts.list_of(said.get("labels", [])))
     name, not_null = json_texts.text_of(said["type"]), json_texts.flag_of(said["not_null"])
-    return ColumnType(name, not_null, tuple(labels), base)
+    base = BASE.read(said["base"]) if "base" in said else None
+    return ColumnType(name, not_null, NAMES.read(said.get("labels", [])), base)
 
 
 def entry_of(said: Written) -> Entry:
@@ -75,8 +72,8 @@ def entry_of(said: Written) -> Entry:
         modifier = json_texts.signed_of(it["modifier"])
         known.add((name, json_texts.oid_of(it["oid"]), modifier))
         columns[name] = column_of(it)
-    primary = tuple(map(json_texts.text_of, json_texts.list_of(said["primary"])))
-    return Entry(json_texts.lsn_of(said["from"]), frozenset(known), TableTypes(columns, primary))
+    types = TableTypes(columns, NAMES.read(said["primary"]))
+    return Entry(json_texts.lsn_of(said["from"]), frozenset(known), types)
 
 
 class KnownTypes:
@@ -141,55 +138,89 @@ def reached(commit: Commit) -> int:
     return (commit.lsn or 0) if commit.base is not None else commit.end
 
 
-class FeedTypes(KnownTypes):
-    """Those of a feed's folder."""
+def comes(is_there: Callable[[], bool], check: Check) -> bool:
+    """Waits until something is so. Returns false where that takes too long."""
+    end = time.monotonic() + PATIENCE
+    while not is_there():
+        check()
+        if time.monotonic() > end:
+            return False
+        time.sleep(OFTEN)
+    return True
 
-    def __init__(self, folder: str, check: Check = never) -> None:
-        super().__init__()
-        self.path, self.check = os.path.join(folder, TYPES), check
+
+class CatalogFile:
+    """A file that a follower replaces as a whole once it has looked at the server's catalog.
+
+    `KIND`: what it is one of; `WITHOUT`: what is so where it can't be read."""
+
+    KIND, WITHOUT = "", ""
+
+    def __init__(self, file: str) -> None:
+        self.file = file
+        # up to which commit its follower has looked
+        self.lsn = 0
         self.stamp: Stamp | None = None
-        self.text = b""
         # what the file was when a look was waited for in vain, and why it can't be read
         self.waited: Stamp | None = None
         self.told = ""
 
+    def read(self) -> None:
+        """Reads the file. A ValueError or a KeyError says that it is none."""
+        raise NotImplementedError
+
     def look(self) -> None:
         """Reads the file, where it was written anew."""
         try:
-            it = os.stat(self.path)
+            it = os.stat(self.file)
             if (stamp := (it.st_ino, it.st_mtime_ns, it.st_size)) != self.stamp:
                 self.stamp = stamp
-                content = json_texts.read_plain(self.path, json_texts.LARGEST)
-                self.take(content)
-                self.text = content
+                self.read()
         except FileNotFoundError:
-            # (an earlier version of the follower doesn't write it)
+            # (an earlier version of the follower may not write it)
             self.stamp = None
         except OSError as error:
+            # (another account may be denied)
             self.tell(str(error.strerror))
         except (KeyError, ValueError) as error:
-            self.tell(f"not a file of types: {error}")
+            self.tell(f"not a file of {self.KIND}: {error}")
 
-    def of(self, relation: Relation, commit: Commit) -> TableTypes | None:
-        """The same, once the server was looked at after that commit, or the table is known. Where no
-        follower looks any more, that is waited for once."""
-        self.look()
-        lsn, end = reached(commit), time.monotonic() + PATIENCE
-        while (found := self.exact(relation, lsn)) is None and self.is_to_come(lsn):
-            self.check()
-            if time.monotonic() > end:
-                self.waited = self.stamp
-                break
-            time.sleep(OFTEN)
+    def wait_for(self, is_known: Callable[[], bool], lsn: int, check: Check) -> None:
+        """Waits until something is known, as long as the server wasn't looked at after this LSN.
+        Where no follower looks any more, that is waited for once."""
+
+        def is_over() -> bool:
             self.look()
-        return found or self.nearest(relation, lsn)
+            return is_known() or self.lsn >= lsn or self.stamp in (None, self.waited)
 
-    def is_to_come(self, lsn: int) -> bool:
-        return self.lsn < lsn and self.stamp not in (None, self.waited)
+        if not comes(is_over, check):
+            self.waited = self.stamp
 
     def tell(self, text: str) -> None:
         """Tells once why nothing more is known, which nobody waits for."""
         self.waited = self.stamp
         if text != self.told:
             self.told = text
-            log.warning(f"{self.path}: {text}: types and keys are those of the definitions alone")
+            log.warning(f"{self.file}: {text}: {self.WITHOUT}")
+
+
+class FeedTypes(KnownTypes, CatalogFile):
+    """Those of a feed's folder."""
+
+    KIND, WITHOUT = "types", "types and keys are those of the definitions alone"
+
+    def __init__(self, folder: str, check: Check = never) -> None:
+        CatalogFile.__init__(self, os.path.join(folder, TYPES))
+        KnownTypes.__init__(self)
+        self.check, self.text = check, b""
+
+    def read(self) -> None:
+        content = json_texts.read_plain(self.file, json_texts.LARGEST)
+        self.take(content)
+        self.text = content
+
+    def of(self, relation: Relation, commit: Commit) -> TableTypes | None:
+        """The same, once the server was looked at after that commit, or the table is known."""
+        lsn = reached(commit)
+        self.wait_for(lambda: self.exact(relation, lsn) is not None, lsn, self.check)
+        return super().of(relation, commit)

@@ -28,8 +28,8 @@ class BaseType(NamedTuple):
     """What a domain is of, at the end: its name with the modifier, OID and modifier."""
 
     name: str
-    oid: int
-    modifier: int
+    oid: Oid
+    modifier: Signed
 
 
 class ColumnType(NamedTuple):

@@ -45,8 +45,8 @@ BUGS = (
     Bug(
         "a commit is given before the server was looked at",
         "pgsub_feed/column_types.py",
-        "return self.lsn < lsn and self.stamp not in (None, self.waited)",
-        "return False",
+        "return is_known() or self.lsn >= lsn or self.stamp in (None, self.waited)",
+        "return True",
         ("test_column_types",),
     ),
     Bug(
@@ -1185,9 +1185,9 @@ BUGS = (
     ),
     Bug(
         "a new table isn't waited for until the server was looked at",
-        "pgsub_feed/known_tables.py",
-        "and self.lsn < lsn and",
-        "and self.lsn > lsn and",
+        "pgsub_feed/column_types.py",
+        "or self.lsn >= lsn or",
+        "or self.lsn <= lsn or",
         ("test_sink_keys",),
     ),
     Bug(

@@ -128,7 +128,7 @@ class Made(KeysCase):
         """Another account keeps the tables, say."""
         self.look("id")
         denied = PermissionError(13, "Permission denied")
-        with mock.patch("pgsub_feed.known_tables.stamp_of", side_effect=denied):
+        with mock.patch("pgsub_feed.known_tables.json_texts.open_plain", side_effect=denied):
             self.take(put("1", "a"))
             told = self.run_it()
         self.assertRegex("".join(told), f"copy.tables: Permission denied: {ALONE}")

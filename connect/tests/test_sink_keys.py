@@ -42,7 +42,7 @@ class KeysCase(RedisCase):
         self.store = str(self.folder / "copy")
         Path(self.store + ".connector").touch()
         self.look(*self.primary)
-        patched = mock.patch("pgsub_feed.known_tables.PATIENCE", 0.3)
+        patched = mock.patch("pgsub_feed.column_types.PATIENCE", 0.3)
         patched.start()
         self.addCleanup(patched.stop)
 
@@ -126,13 +126,13 @@ class Hashes(KeysCase):
             waited.append(1)
             self.look("id")
 
-        with mock.patch("pgsub_feed.known_tables.time.sleep", sleep):
+        with mock.patch("pgsub_feed.column_types.time.sleep", sleep):
             self.assertEqual((self.run_it(), self.server.rows()), ([], stock(("1", "a"))))
         self.assertEqual(len(waited), 1)
         self.look("id", oid=9)
         of, more = table(2, "other", letter="f"), table(3, "more", letter="f")
         clock = mock.Mock(monotonic=lambda: 0.02 * len(waited), sleep=lambda _: waited.append(1))
-        with mock.patch("pgsub_feed.known_tables.time", clock):
+        with mock.patch("pgsub_feed.column_types.time", clock):
             self.rows(insert("1", "x", of=of), insert("1", "x", of=more), told="public.other")
             count = len(waited)
             known = KnownTables(self.store)
@@ -339,7 +339,7 @@ class BulkLines(KeysCase):
         told = (
             f"it has the key none, and had id, .* may be wrong, and the table is left out.* {ANEW}"
         )
-        with mock.patch("pgsub_feed.known_tables.time.sleep", looked):
+        with mock.patch("pgsub_feed.column_types.time.sleep", looked):
             found = self.printed("--from", f"0/{begin:X}", told=told)
         self.assertEqual([it["delete"]["version"] for it in found], [first])
 
