@@ -8,7 +8,7 @@ import select
 import socket
 import ssl
 import time
-from typing import Any
+from typing import Any, Protocol
 
 from ..interruption import Check, looked_up, undone_by
 
@@ -17,6 +17,19 @@ TICK = 0.1
 # An engine has so long for what it was told once the end was asked for, in seconds.
 GRACE = 5.0
 BUSY = (BlockingIOError, ssl.SSLWantReadError, ssl.SSLWantWriteError)
+
+
+class Peer(Protocol):
+    """A connection of an engine. `check` is called while it is waited for."""
+
+    check: Check
+
+    def end_by(self, check: Check) -> None:
+        """Has another check say when nothing is waited for any more."""
+        self.check = check
+
+    def close(self) -> None:
+        """Ends it."""
 
 
 def connected(host: str, port: int, seconds: float, check: Check) -> socket.socket:

@@ -13,18 +13,18 @@ import fcntl
 import hashlib
 import os
 import sys
-import time
 from collections.abc import Callable, Iterable, Iterator
 from typing import Any, Protocol, TypeVar
 
 from .. import log
 from ..errors import Damaged, Passing, Stopped
-from ..interruption import Check
+from ..interruption import Check, limited
 from ..json_texts import Unreadable
 from ..ownership import give, opened
 from ..reader.commits import Commit, Head
 from ..reader.folder import READERS, make_folder
 from ..reader.following import Keeper
+from .connecting import Peer
 from .first_rows import Base
 
 # How many bytes of a commit are made into messages at once. A larger one is read twice.
@@ -79,6 +79,7 @@ class Engine(Keeper, Protocol):
     """Keeps commits, and is told first what it is to keep."""
 
     at: int = 0
+    peer: Peer
 
     def open(self, wanted: Wanted) -> bool:
         """Looks at what is there; whether that is something that can be gone on with. An Unfit says
@@ -87,18 +88,9 @@ class Engine(Keeper, Protocol):
     def begin(self, base: Base) -> None:
         """Begins anew, with the rows of a base."""
 
-    def end_by(self, check: Check) -> None:
-        """Has another check say when nothing is waited for any more."""
-
     def finish(self, seconds: float) -> bool:
         """Has what was taken, in so many seconds; whether so. Nothing is taken afterwards."""
-        end = time.monotonic() + seconds
-
-        def check() -> None:
-            if time.monotonic() > end:
-                raise Stopped
-
-        self.end_by(check)
+        self.peer.end_by(limited(seconds, Stopped()))
         with contextlib.suppress(Stopped):
             self.settle()
             return True
@@ -109,7 +101,7 @@ class Engine(Keeper, Protocol):
         return
 
     def close(self) -> None:
-        """Ends the connection."""
+        self.peer.close()
 
 
 # For how long one mark stands, in seconds.

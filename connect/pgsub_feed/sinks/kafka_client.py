@@ -14,7 +14,7 @@ from ..errors import EngineError, FileError, Passing, TooLarge, UsageError
 from ..interruption import Check, undone_by
 from ..ownership import readable_by, readable_text
 from ..texts import shortened
-from .connecting import TICK
+from .connecting import TICK, Peer
 
 # How long to wait for the cluster, and until it has one more message, in seconds.
 CONNECT, LONGEST = 10.0, 30.0
@@ -88,7 +88,7 @@ def kilobytes(config: Mapping[str, str]) -> int:
     return max(KILOBYTES, int(most) >> 9 if most.isdecimal() else 0)
 
 
-class Cluster:
+class Cluster(Peer):
     """A producer, and what it takes to look at what is there."""
 
     def __init__(self, servers: str, config: dict[str, str], check: Check) -> None:
@@ -263,10 +263,6 @@ class Cluster:
                 text = f"{self.where}: it doesn't say in {LONGEST:.0f} seconds that it has a message{about}"
                 raise Passing(text)
         self.look()
-
-    def end_by(self, check: Check) -> None:
-        """Has another check say when nothing is waited for any more."""
-        self.check = check
 
     def close(self) -> None:
         self.producer.purge()

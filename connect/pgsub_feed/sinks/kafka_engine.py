@@ -66,8 +66,8 @@ class Kafka(Engine):
     """An engine."""
 
     def __init__(self, cluster: Cluster, envelopes: Envelopes, check: Check, alone: Alone) -> None:
-        self.cluster, self.envelopes, self.check = cluster, envelopes, check
-        self.alone = alone
+        self.peer = self.cluster = cluster
+        self.envelopes, self.check, self.alone = envelopes, check, alone
         self.topic = f"{envelopes.settings.prefix}.position"
         self.end, self.written = 0, time.monotonic()
         # of a base that was begun and not ended
@@ -183,12 +183,6 @@ class Kafka(Engine):
     def safe(self) -> int | None:
         # (a broker doesn't tell when it syncs: replicas stand for that)
         return self.at
-
-    def end_by(self, check: Check) -> None:
-        self.cluster.end_by(check)
-
-    def close(self) -> None:
-        self.cluster.close()
 
 
 def connect(

@@ -47,7 +47,7 @@ class Nats(Engine):
     """An engine."""
 
     def __init__(self, stream: JetStream, check: Check) -> None:
-        self.stream, self.name, self.check = stream, stream.stream, check
+        self.peer, self.stream, self.name, self.check = stream.wire, stream, stream.stream, check
         self.end, self.looked = 0, time.monotonic()
         # of the commit that is published in part: its end, its last message, and what that says
         self.part: tuple[int, Place] | None = None
@@ -196,12 +196,6 @@ class Nats(Engine):
 
     def safe(self) -> int | None:
         return self.trail.pass_to(time.monotonic() - SYNCED)
-
-    def end_by(self, check: Check) -> None:
-        self.stream.wire.end_by(check)
-
-    def close(self) -> None:
-        self.stream.wire.close()
 
 
 def connect(url: str, stream: str, replicas: int, check: Check) -> Nats:

@@ -25,7 +25,7 @@ from ..errors import EngineError, Passing, Stopped, UsageError
 from ..interruption import Check, never, undone_by
 from ..json_texts import Unreadable, object_of, parsed, whole_of
 from ..texts import shortened
-from .connecting import BUSY, connected, encrypted, is_loopback, is_ready
+from .connecting import BUSY, Peer, connected, encrypted, is_loopback, is_ready
 
 PORT = 4222
 # How long to wait for a connection, and until what is sent has left, in seconds.
@@ -89,7 +89,7 @@ def op_of(line: bytes) -> bytes:
     return line.split(b" ", 1)[0].upper()
 
 
-class Wire:
+class Wire(Peer):
     """A connection. It isn't made again where it is lost. `check` is called while it waits: what
     that raises leaves what is sent, and what comes, whole."""
 
@@ -297,10 +297,6 @@ class Wire:
             return self.socket.recv(CHUNK)
         except BUSY:
             return None
-
-    def end_by(self, check: Check) -> None:
-        """Has another check say when nothing is waited for any more."""
-        self.check = check
 
     def close(self) -> None:
         self.socket.close()

@@ -16,7 +16,7 @@ from .. import log
 from ..errors import EngineError, FileError, Passing, Stopped, UsageError
 from ..interruption import Check, interruptible, looked_up, never, undone_by
 from ..texts import shortened
-from .connecting import GRACE, is_loopback
+from .connecting import GRACE, Peer, is_loopback
 
 Command = Sequence[Union[bytes, str, int]]
 # Errors that may pass: it loads, runs a script, is full, or another one is the primary.
@@ -82,26 +82,18 @@ def packed_command(command: Command) -> bytes:
     return b"".join([b"*%d\r\n" % len(words), *(b"$%d\r\n%b\r\n" % (len(it), it) for it in words)])
 
 
-class Calls(Protocol):
+class Calls(Peer, Protocol):
     """A connection. What Redis says is bytes, a number, None or a list of these; an error is a Said
     that is returned.
 
-    `check` is called before it is waited for. A signal ends that where nothing comes in time: then
-    the connection is lost.
+    A signal ends a wait where nothing comes in time: then the connection is lost.
     """
 
     where: str
-    check: Check
     is_lost: bool
 
     def run(self, commands: Sequence[Command]) -> list[Any]:
         """Sends commands, and returns what each got."""
-
-    def end_by(self, check: Check) -> None:
-        """Has another check say when nothing is waited for any more."""
-
-    def close(self) -> None:
-        """Ends it."""
 
 
 def asked(calls: Calls, commands: Sequence[Command]) -> list[Any]:
@@ -113,7 +105,7 @@ def asked(calls: Calls, commands: Sequence[Command]) -> list[Any]:
     return said
 
 
-class Connection:
+class Connection(Calls):
     """A connection to a real one. It isn't made again, since what was watched is forgotten."""
 
     def __init__(self, url: str, check: Check = never) -> None:
@@ -230,9 +222,6 @@ class Connection:
         if isinstance(said, list):
             return [self.whole(it) for it in said]
         return Said(self.text(said)) if isinstance(said, Exception) else said
-
-    def end_by(self, check: Check) -> None:
-        self.check = check
 
     def close(self) -> None:
         self.connection.disconnect()

@@ -121,8 +121,8 @@ class Redis(Engine):
         writer: Writer,
         known: KnownTables | None = None,
     ) -> None:
-        self.calls, self.form, self.check, self.writer = calls, form, check, writer
-        self.known = known
+        self.peer = self.calls = calls
+        self.form, self.check, self.writer, self.known = form, check, writer, known
         # the LSN that all is at as a text, None before there is one; the end of the last commit
         self.lsn: bytes | None = None
         self.end = 0
@@ -349,20 +349,14 @@ class Redis(Engine):
     def finish(self, seconds: float) -> bool:
         if self.calls.is_lost:
             return False
-        self.end_by(never)
+        self.calls.end_by(never)
         with contextlib.suppress(Stopped), at_most(seconds):
             self.settle()
             return True
         return False
-
-    def end_by(self, check: Check) -> None:
-        self.calls.end_by(check)
 
     def check_disk(self) -> None:
         self.disk.check()
 
     def safe(self) -> int | None:
         return self.disk.safe()
-
-    def close(self) -> None:
-        self.calls.close()
