@@ -5,7 +5,7 @@ import dataclasses
 import re
 import signal
 import sys
-from collections.abc import Iterator, Sequence
+from collections.abc import Sequence
 
 from . import log
 from .column_types import FeedTypes
@@ -19,8 +19,7 @@ from .known_tables import known_beside
 from .options import Parser, add_fields, add_version, file, flag, lsn, option, plain_name
 from .pipe.pipes import Pipes
 from .pipe.serving import serve
-from .program import Worker, guarded, stop_by_signals
-from .reader.commits import Commit
+from .program import check_signals, guarded
 from .reader.following import Chosen
 from .reader.polling import Poll
 from .reader.segments import Reader
@@ -200,18 +199,8 @@ def tell_unseen(chosen: Chosen) -> None:
     chosen.unseen.clear()
 
 
-def commits(poll: Poll, chosen: Chosen) -> Iterator[Commit]:
-    """All of them. Once there are none for now, it tells which names no table had."""
-    while (commit := poll.next()) or poll.is_following:
-        if commit:
-            yield commit
-        else:
-            tell_unseen(chosen)
-            poll.rest()
-
-
 def print_commits(poll: Poll, options: Options, form: Format, chosen: Chosen) -> None:
-    for commit in commits(poll, chosen):
+    for commit in poll.commits(lambda: tell_unseen(chosen)):
         if commit.base is not None and options.format != "lines":
             # (a row from before is one of their LSN, also where others follow)
             commit = commit._replace(end=commit.lsn or 0)
@@ -226,10 +215,8 @@ def print_commits(poll: Poll, options: Options, form: Format, chosen: Chosen) ->
 
 
 def main(words: Sequence[str]) -> int:
-    options = arguments(words)
-    start = Worker()
-    stop_by_signals(start)
-    return guarded(lambda: run(options, start.check_stop))
+    options, check = arguments(words), check_signals()
+    return guarded(lambda: run(options, check))
 
 
 def start() -> None:

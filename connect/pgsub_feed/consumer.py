@@ -138,16 +138,11 @@ class Build:
 
 
 def whole(poll: Poll, build: Build) -> Iterator[Commit]:
-    """Commit after commit. One whose lines can't be read may be what is about to be cut off."""
-    while (commit := poll.next()) or poll.is_following:
-        if commit is None:
-            poll.rest()
-            continue
+    """Commit after commit."""
+    for commit in poll.commits():
         try:
             found = build(commit, poll.reader.parts(commit))
         except Damaged as damaged:
-            poll.bear(damaged, commit.end)
-            poll.reader.go_back(commit.prev)
-            poll.rest()
-            continue
-        yield found
+            poll.try_again(damaged, commit, commit.prev)
+        else:
+            yield found

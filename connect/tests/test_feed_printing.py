@@ -62,7 +62,7 @@ class PrintingCase(FeedCase):
         out = io.BytesIO()
         text = Terminal(out) if terminal else io.TextIOWrapper(out)
         with mock.patch.object(sys, "stdout", text), mock.patch(
-            "pgsub_feed.command.stop_by_signals"
+            "pgsub_feed.program.stop_by_signals"
         ):
             self.assertEqual(main(["--feed", str(self.path), *words]), status)
         text.flush()

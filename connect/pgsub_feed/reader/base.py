@@ -132,27 +132,26 @@ class BaseFile:
             found.append((known[line], Span(self.number, begin, end - begin)))
         return found
 
-    def part(self, relation: Relation, offset: int, size: int) -> Iterator[Section]:
-        """The rows at an offset, which are of this relation."""
+    def part(self, relation: Relation | None, offset: int, size: int) -> Iterator[Section]:
+        """The rows at an offset, which are of this relation until another one is told."""
         self.file.seek(offset)
         end = offset + size
         # (the line that passes this is the last one of some)
         while offset < end and (lines := self.file.readlines(min(CHUNK, end - offset - 1))):
-            yield from sections_of(self.path, offset, lines, relation)
+            for it in sections_of(self.path, offset, lines, relation):
+                relation = it.relation
+                yield it
             offset += sum(map(len, lines))
 
     def sections(self) -> Iterator[Section]:
         self.check()
-        relation: Relation | None = None
-        rows, offset = 0, HEAD_SIZE
-        while lines := self.file.readlines(CHUNK):
-            for it in sections_of(self.path, offset, lines, relation):
-                rows, relation = rows + len(it.rows), it.relation
-                yield it
-            offset += sum(map(len, lines))
+        rows, size = 0, self.head.bytes
+        for it in self.part(None, HEAD_SIZE, size):
+            rows += len(it.rows)
+            yield it
         if rows != self.head.rows:
             told = f"the file has {rows} rows, and its head says {self.head.rows}"
-            raise Damaged(COUNTS, self.path, offset, told)
+            raise Damaged(COUNTS, self.path, HEAD_SIZE + size, told)
 
     def close(self) -> None:
         self.file.close()

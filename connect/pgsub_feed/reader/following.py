@@ -178,9 +178,7 @@ class Following:
         except Damaged as damaged:
             self.keeper.forget()
             self.begun = None
-            self.poll.bear(damaged, commit.end)
-            self.reader.go_back(self.keeper.at)
-            self.poll.rest()
+            self.poll.try_again(damaged, commit, self.keeper.at)
             return
         if time.monotonic() - self.begun > LONGEST:
             self.settle()

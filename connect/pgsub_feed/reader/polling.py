@@ -4,10 +4,10 @@ import contextlib
 import os
 import select
 import time
-from collections.abc import Iterator
+from collections.abc import Callable, Iterator
 
 from ..errors import Damaged, Stopped, Unfit
-from ..interruption import Check, interruptible
+from ..interruption import Check, interruptible, never
 from ..texts import lsn_text, parse_lsn
 from .commits import Commit
 from .segments import Reader
@@ -109,10 +109,19 @@ class Poll:
         time.sleep(self.pause)
         self.pause = min(self.pause * 1.5, LONG)
 
-    def commits(self) -> Iterator[Commit]:
-        """All of them; where it isn't following, those that are there."""
+    def commits(self, idle: Callable[[], None] = never) -> Iterator[Commit]:
+        """All of them; where it isn't following, those that are there. `idle` is called where there
+        are none for now."""
         while (commit := self.next()) or self.is_following:
             if commit:
                 yield commit
             else:
+                idle()
                 self.rest()
+
+    def try_again(self, damaged: Damaged, commit: Commit, at: int) -> None:
+        """Goes back to an LSN from a commit whose lines can't be read: they may be what is about to
+        be cut off."""
+        self.bear(damaged, commit.end)
+        self.reader.go_back(at)
+        self.rest()
