@@ -29,28 +29,24 @@ from ..reader.segments import Reader
 from ..relation import Relation, TableTypes
 from ..tables.indexes import OTHER, lacking, other_key
 from . import logical_messages
+from .kinds import fields, of
 from .settings import TOMBSTONES, TRANSACTIONS, Settings
-from .tables import Moment, Source, Table, field, schema_text, versioned
+from .tables import Moment, Source, Table, schema_text, versioned
 
-ID = [field("id", "string", False)]
-TRANSACTION_KEY = schema_text(
-    versioned("io.debezium.connector.common.TransactionMetadataKey", 1, ID)
-)
+METADATA = "io.debezium.connector.common.TransactionMetadata"
+TRANSACTION_KEY = schema_text(versioned(f"{METADATA}Key", 1, fields(False, id="string")))
 COLLECTION = versioned(
-    "event.collection",
-    1,
-    [field("data_collection", "string", False), field("event_count", "int64", False)],
+    "event.collection", 1, fields(False, data_collection="string", event_count="int64")
 )
 TRANSACTION_VALUE = schema_text(
     versioned(
-        "io.debezium.connector.common.TransactionMetadataValue",
+        f"{METADATA}Value",
         1,
         [
-            field("status", "string", False),
-            *ID,
-            field("event_count", "int64", True),
-            {"type": "array", "items": COLLECTION, "optional": True, "field": "data_collections"},
-            field("ts_ms", "int64", False),
+            *fields(False, status="string", id="string"),
+            *fields(True, event_count="int64"),
+            of({"type": "array", "items": COLLECTION}, True, field="data_collections"),
+            *fields(False, ts_ms="int64"),
         ],
     )
 )

@@ -9,6 +9,7 @@ import re
 from collections.abc import Callable, Sequence
 from typing import Any, NamedTuple
 
+from ..changes import DATE, OID, TIME, TIMESTAMP, TIMESTAMPTZ, UUID, read_bool
 from ..relation import Column, ColumnType
 from ..tables.values import BOOL, BYTEA, FLOAT4, FLOAT8, INT2, INT4, INT8, NUMERIC
 from . import values
@@ -16,10 +17,8 @@ from .settings import BINARIES, DECIMALS, INTERVALS, TIMES, Settings
 
 Schema = dict[str, Any]
 
-OID, JSON, XML, POINT, MONEY, DATE, TIME, TIMESTAMP, TIMESTAMPTZ, INTERVAL, TIMETZ = (
-    26, 114, 142, 600, 790, 1082, 1083, 1114, 1184, 1186, 1266,
-)  # fmt: skip
-BIT, VARBIT, UUID, JSONB, TSVECTOR = 1560, 1562, 2950, 3802, 3614
+JSON, XML, POINT, MONEY, INTERVAL, TIMETZ = 114, 142, 600, 790, 1186, 1266
+BIT, VARBIT, JSONB, TSVECTOR = 1560, 1562, 3802, 3614
 # By the OID of an array's type that of its elements'. (Those of box are separated by `;`.)
 ARRAYS = {
     143: XML, 199: JSON, 271: 5069, 629: 628, 651: 650, 719: 718, 775: 774, 791: MONEY, 1000: BOOL,
@@ -68,13 +67,18 @@ def of(schema: Schema, optional: bool, **more: Any) -> Schema:
     return {**kind, "optional": optional, **rest, **more}
 
 
+def fields(optional: bool, /, **kinds: str) -> list[Schema]:
+    """Fields with these names, of these types."""
+    return [{"type": kind, "optional": optional, "field": name} for name, kind in kinds.items()]
+
+
 SMALL, LARGE = Kind({"type": "float"}, values.read_float), Kind(
     {"type": "double"}, values.read_float
 )
 TEXT = Kind(STRING, text)
 # Those that are the same whatever the settings and the type modifier are.
 PLAIN: dict[int, Kind] = {
-    BOOL: Kind({"type": "boolean"}, values.read_bool),
+    BOOL: Kind({"type": "boolean"}, read_bool),
     INT2: Kind({"type": "int16"}, values.signed(16)),
     INT4: Kind({"type": "int32"}, values.signed(32)),
     INT8: Kind({"type": "int64"}, values.signed(64)),
@@ -93,10 +97,8 @@ PLAIN: dict[int, Kind] = {
             **debezium("struct", "data.geometry.Point"),
             "doc": "Geometry (POINT)",
             "fields": [
-                {"type": "double", "optional": False, "field": "x"},
-                {"type": "double", "optional": False, "field": "y"},
-                {"type": "bytes", "optional": True, "field": "wkb"},
-                {"type": "int32", "optional": True, "field": "srid"},
+                *fields(False, x="double", y="double"),
+                *fields(True, wkb="bytes", srid="int32"),
             ],
         },
         values.read_point,
@@ -106,10 +108,7 @@ VARIABLE_SCALE = Kind(
     {
         **debezium("struct", "data.VariableScaleDecimal"),
         "doc": "Variable scaled decimal",
-        "fields": [
-            {"type": "int32", "optional": False, "field": "scale"},
-            {"type": "bytes", "optional": False, "field": "value"},
-        ],
+        "fields": fields(False, scale="int32", value="bytes"),
     },
     values.variable_scale,
 )

@@ -3,16 +3,15 @@
 from collections.abc import Mapping
 
 from ..reader.commits import Message
-from .kinds import BYTES, OF_BYTES, Schema, of
+from .kinds import BYTES, OF_BYTES, Schema, fields, of
 from .settings import BINARIES, Settings
-from .tables import SOURCE, TIMES, TRANSACTION, field, schema_text, versioned
+from .tables import SOURCE, TIMES, TRANSACTION, schema_text, versioned
 
 # The op of one, what its topic is called behind the prefix of topics, and a transaction counts it
 # as.
 OP, COLLECTION = "m", "message"
 NAME = "io.debezium.connector.postgresql.Message"
-PREFIX = field("prefix", "string", True)
-KEY = schema_text(versioned(f"{NAME}Key", 1, [PREFIX]))
+KEY = schema_text(versioned(f"{NAME}Key", 1, fields(True, prefix="string")))
 
 
 def topic_of(settings: Settings) -> str:
@@ -25,14 +24,15 @@ def key_of(it: Message) -> dict[str, object]:
 
 def message_schema(settings: Settings) -> Schema:
     content = of(BYTES[settings[BINARIES]].schema, True, field="content")
-    return versioned(NAME, 1, [field("transactional", "boolean", True), PREFIX, content])
+    told = [*fields(True, transactional="boolean", prefix="string"), content]
+    return versioned(NAME, 1, told, field="message")
 
 
 def schema_of(settings: Settings) -> bytes:
     """That of a message's value."""
-    message = {**message_schema(settings), "field": "message"}
-    op = field("op", "string", False)
-    return schema_text(versioned(f"{NAME}Value", 1, [op, *TIMES, SOURCE, TRANSACTION, message]))
+    op = fields(False, op="string")
+    told = [*op, *TIMES, SOURCE, TRANSACTION, message_schema(settings)]
+    return schema_text(versioned(f"{NAME}Value", 1, told))
 
 
 def value_of(

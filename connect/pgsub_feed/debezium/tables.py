@@ -2,74 +2,49 @@
 
 import functools
 from collections.abc import Sequence
-from typing import Any
 
 from .. import log
-from ..changes import read_binary
 from ..errors import Unfit
 from ..formats.keys import escaped, full, key_of
 from ..json_texts import compact
 from ..reader.commits import Cell, Commit, Head
 from ..relation import Column, ColumnType, Relation, TableTypes
-from ..tables.floats import printed_float
-from ..tables.values import BYTEA, FLOAT4
+from ..tables.reshape import printed
+from ..tables.values import KINDS, TEXTS
 from ..version import VERSION
-from .kinds import Schema, kind_of_column, of
+from .kinds import Schema, debezium, fields, kind_of_column, of
 from .settings import DECIMALS, FAILURES, Settings
 
 CONNECTOR = "postgresql"
 SNAPSHOTS = "true,first,first_in_data_collection,last_in_data_collection,last,false,incremental"
 
 
-def field(name: str, kind: str, optional: bool) -> dict[str, Any]:
-    return {"type": kind, "optional": optional, "field": name}
-
-
-def versioned(name: str, version: int, fields: list[Any], optional: bool = False) -> dict[str, Any]:
+def versioned(
+    name: str, version: int, fields: list[Schema], optional: bool = False, **more: str
+) -> Schema:
     about = {"optional": optional, "name": name, "version": version}
-    return {"type": "struct", "fields": fields, **about}
+    return {"type": "struct", "fields": fields, **about, **more}
 
 
-SNAPSHOT = {
-    "type": "string",
-    "optional": True,
-    "name": "io.debezium.data.Enum",
-    "version": 1,
-    "parameters": {"allowed": SNAPSHOTS},
-    "default": "false",
-    "field": "snapshot",
-}
-SOURCE = {
-    **versioned(
-        "io.debezium.connector.postgresql.Source",
-        1,
-        [
-            *(field(it, "string", False) for it in ("version", "connector", "name")),
-            field("ts_ms", "int64", False),
-            SNAPSHOT,
-            field("db", "string", False),
-            field("sequence", "string", True),
-            *(field(it, "int64", True) for it in ("ts_us", "ts_ns")),
-            *(field(it, "string", False) for it in ("schema", "table")),
-            *(field(it, "int64", True) for it in ("txId", "lsn", "xmin")),
-        ],
-    ),
-    "field": "source",
-}
-TRANSACTION = {
-    **versioned(
-        "event.block",
-        1,
-        [
-            field("id", "string", False),
-            field("total_order", "int64", False),
-            field("data_collection_order", "int64", False),
-        ],
-        True,
-    ),
-    "field": "transaction",
-}
-TIMES = [field(f"ts_{it}", "int64", True) for it in ("ms", "us", "ns")]
+SNAPSHOT = of(
+    debezium("string", "data.Enum", allowed=SNAPSHOTS), True, default="false", field="snapshot"
+)
+SOURCE = versioned(
+    "io.debezium.connector.postgresql.Source",
+    1,
+    [
+        *fields(False, version="string", connector="string", name="string", ts_ms="int64"),
+        SNAPSHOT,
+        *fields(False, db="string"),
+        *fields(True, sequence="string", ts_us="int64", ts_ns="int64"),
+        *fields(False, schema="string", table="string"),
+        *fields(True, txId="int64", lsn="int64", xmin="int64"),
+    ],
+    field="source",
+)
+ORDER = fields(False, id="string", total_order="int64", data_collection_order="int64")
+TRANSACTION = versioned("event.block", 1, ORDER, True, field="transaction")
+TIMES = fields(True, ts_ms="int64", ts_us="int64", ts_ns="int64")
 
 
 class Moment:
@@ -159,24 +134,17 @@ class Table:
 
     @functools.cached_property
     def key_schema(self) -> bytes:
-        fields = [self.field(at, False) for at in self.key]
-        name = f"{self.topic}.Key"
-        return schema_text({"type": "struct", "fields": fields, "optional": False, "name": name})
+        key = [self.field(at, False) for at in self.key]
+        return schema_text(of({"type": "struct", "fields": key}, False, name=f"{self.topic}.Key"))
 
     @functools.cached_property
     def schema(self) -> bytes:
         """That of an envelope."""
         columns = [self.field(at, it) for at, it in enumerate(self.optional)]
         row = of({"type": "struct", "fields": columns}, True, name=f"{self.topic}.Value")
-        fields = [
-            {**row, "field": "before"},
-            {**row, "field": "after"},
-            SOURCE,
-            TRANSACTION,
-            field("op", "string", False),
-            *TIMES,
-        ]
-        return schema_text(versioned(f"{self.topic}.Envelope", 2, fields))
+        rows = [{**row, "field": it} for it in ("before", "after")]
+        told = [*rows, SOURCE, TRANSACTION, *fields(False, op="string"), *TIMES]
+        return schema_text(versioned(f"{self.topic}.Envelope", 2, told))
 
     def value(self, at: int, cell: Cell) -> object:
         """A cell as JSON has it. Raises one of those in WRONG where its type has no such value."""
@@ -233,13 +201,9 @@ class Table:
 
 def text_of(column: Column, cell: bytes) -> str:
     """A value in binary format as the server prints it, where its type is known."""
-    found = read_binary(column.type_oid, cell)
-    if column.type_oid == BYTEA:
-        return "\\x" + cell.hex()
-    if isinstance(found, bool):
-        return "t" if found else "f"
-    if isinstance(found, float):
-        return printed_float(found, column.type_oid == FLOAT4) if found == found else "NaN"
-    if isinstance(found, bytes):
+    if column.type_oid in TEXTS:
+        return cell.decode()
+    if column.type_oid not in KINDS:
         raise ValueError(f"its type {column.type_oid} isn't read in binary format")
-    return str(found)
+    _, _, read = KINDS[column.type_oid]
+    return str(printed(column, read(cell)))

@@ -21,22 +21,11 @@ Read = Callable[[str], object]
 
 def whole(least: int, most: int) -> Read:
     """What reads a whole number within these bounds."""
-
-    def read(text: str) -> int:
-        number = int(text)
-        if not least <= number <= most:
-            raise ValueError(f"{text} isn't from {least} to {most}")
-        return number
-
-    return read
+    return lambda text: bounded(int(text), least, most)
 
 
 def signed(bits: int) -> Read:
     return whole(-(1 << bits - 1), (1 << bits - 1) - 1)
-
-
-def read_bool(text: str) -> bool:
-    return {"t": True, "f": False}[text]
 
 
 def read_float(text: str) -> float | str:
@@ -98,9 +87,7 @@ def variable_scale(text: str) -> dict[str, object]:
 
 def plain_money(text: str) -> str:
     """An amount without its sign of a currency, and without those between thousands."""
-    found = MONEY.fullmatch(text)
-    if not found:
-        raise ValueError(f"{text!r} is no amount of money")
+    found = fitting(MONEY, text, "is no amount of money")
     return found[1] + found[2].replace(",", "")
 
 
@@ -129,9 +116,7 @@ def bytes_as(form: Callable[[bytes], str]) -> Read:
 
 def read_point(text: str) -> dict[str, object]:
     """A point, also as the well-known binary form of geometry."""
-    found = POINT.fullmatch(text)
-    if not found:
-        raise ValueError(f"{text!r} is no point")
+    found = fitting(POINT, text, "is no point")
     x, y = float(found[1]), float(found[2])
     binary = struct.pack("<BIdd", 1, 1, x, y)
     return {
@@ -164,10 +149,12 @@ def bounded(number: int, least: int = LEAST, most: int = MOST) -> int:
     return number
 
 
-def fitting(pattern: re.Pattern[str], text: str) -> re.Match[str]:
+def fitting(
+    pattern: re.Pattern[str], text: str, wrong: str = "isn't what the server prints"
+) -> re.Match[str]:
     found = pattern.fullmatch(text)
     if not found:
-        raise ValueError(f"{text!r} isn't what the server prints")
+        raise ValueError(f"{text!r} {wrong}")
     return found
 
 
@@ -199,18 +186,21 @@ def read_days(text: str) -> int:
     return bounded(found, LEAST_DAY, MOST_DAY)
 
 
+def micros_of(hours: str, minutes: str | None, seconds: str | None, part: str | None = None) -> int:
+    """The microseconds of hours, minutes, seconds and what stands behind their point."""
+    whole = (int(hours) * 60 + int(minutes or 0)) * 60 + int(seconds or 0)
+    return whole * SECOND + int((part or "").ljust(6, "0"))
+
+
 def read_clock(text: str) -> int:
     """A time's microseconds from midnight on."""
-    hour, minute, second, part = fitting(TIME, text).groups()
-    whole = (int(hour) * 60 + int(minute)) * 60 + int(second)
-    return whole * SECOND + int((part or "").ljust(6, "0"))
+    return micros_of(*fitting(TIME, text).groups())
 
 
 def read_offset(text: str) -> int:
     """The microseconds by which a zone is ahead."""
     sign, *parts = fitting(OFFSET, text).groups()
-    hour, minute, second = (int(it or 0) for it in parts)
-    found = ((hour * 60 + minute) * 60 + second) * SECOND
+    found = micros_of(*parts)
     return -found if sign == "-" else found
 
 
@@ -260,9 +250,8 @@ def read_interval(text: str) -> tuple[int, int, int]:
         rest = rest[part.end() :].lstrip(" ")
     micros = 0
     if rest or rest == text:
-        sign, hours, minutes, seconds, fraction = fitting(CLOCK, rest).groups()
-        whole = (int(hours) * 60 + int(minutes)) * 60 + int(seconds)
-        micros = whole * SECOND + int((fraction or "").ljust(6, "0"))
+        sign, *parts = fitting(CLOCK, rest).groups()
+        micros = micros_of(*parts)
         micros = -micros if sign == "-" else micros
     return 12 * found["year"] + found["mon"], found["day"], micros
 
