@@ -96,6 +96,15 @@ def error(text: str) -> None:
     line("error", text)
 
 
+class Once(set[object]):
+    """Of what it was warned, once each."""
+
+    def warning(self, what: object, text: str) -> None:
+        if what not in self:
+            self.add(what)
+            warning(text)
+
+
 # How often it is drawn at most, and how often a line is written elsewhere, in seconds.
 EACH_LINE, WRITTEN = 0.2, 30.0
 

@@ -31,7 +31,7 @@ from ..tables.indexes import OTHER, lacking, other_key
 from . import logical_messages
 from .kinds import fields, of
 from .settings import TOMBSTONES, TRANSACTIONS, Settings
-from .tables import Moment, Source, Table, schema_text, versioned
+from .tables import Source, Table, schema_text, times_of, versioned
 
 METADATA = "io.debezium.connector.common.TransactionMetadata"
 TRANSACTION_KEY = schema_text(versioned(f"{METADATA}Key", 1, fields(False, id="string")))
@@ -84,15 +84,14 @@ class Envelopes:
         self.tables = dict[int, Table]()
         # the definitions of the commit by now, with what is known of them
         self.typed = dict[int, tuple[Relation, TableTypes | None]]()
-        self.told = set[str]()
+        self.told = log.Once()
         self.topics = dict[str, int]()
 
     def begin(self, head: Head, commit: Commit, is_base: bool = False) -> None:
         """Begins a commit, or the rows of a base."""
         self.commit, self.typed = commit, {}
-        moment = Moment(time.time_ns())
-        self.source = Source(self.settings.prefix, head, commit, moment, is_base)
-        self.times: dict[str, object] = moment.told
+        self.times = times_of(time.time_ns())
+        self.source = Source(self.settings.prefix, head, commit, self.times, is_base)
         has_xid = commit.xid is not None and commit.xid != XID
         self.id = f"{commit.xid}:{self.source.lsn}" if has_xid else None
         # how many envelopes the commit has so far, by table and in all
@@ -105,9 +104,8 @@ class Envelopes:
             yield self.logical(it)
             return
         if isinstance(it, Missed):
-            self.tell(
-                "x", f"{self.commit.text()}: a change that found no row is left out, and any later"
-            )
+            text = "a change that found no row is left out, and any later"
+            self.told.warning("x", f"{self.commit.text()}: {text}")
             return
         table = self.table(it.relation)
         before, after = (self.key(table, it.n, row) for row in (it.before, it.after))
@@ -187,7 +185,7 @@ class Envelopes:
         if row is None:
             name = table.relation.text()
             text = "a row has null in the key, so its messages have none"
-            self.tell(name, f"{self.commit.text()}:{n}: {name}: {text}")
+            self.told.warning(name, f"{self.commit.text()}:{n}: {name}: {text}")
             return None
         return self.text(lambda: table.key_schema, row)
 
@@ -244,9 +242,8 @@ class Envelopes:
         oid = self.topics.setdefault(table.topic, table.relation.oid)
         if oid != table.relation.oid:
             name = table.relation.text()
-            self.tell(
-                name, f"{name}: the topic {table.topic} has rows of another table, {oid}, too"
-            )
+            text = f"the topic {table.topic} has rows of another table, {oid}, too"
+            self.told.warning(name, f"{name}: {text}")
             self.topics[table.topic] = table.relation.oid
 
     def primary(self, relation: Relation, types: TableTypes | None) -> tuple[str, ...]:
@@ -262,11 +259,6 @@ class Envelopes:
                 self.known.wait(relation.oid, self.commit.end, self.check)
             found = self.known.primary(relation.oid) or ()
         return () if lacking(found, relation) else other_key(relation, found)
-
-    def tell(self, what: str, text: str) -> None:
-        if what not in self.told:
-            self.told.add(what)
-            log.warning(text)
 
 
 class Debezium:

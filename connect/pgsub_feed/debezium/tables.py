@@ -1,7 +1,7 @@
 """A table as messages have it: its topic, key, rows and source, and their schemas."""
 
 import functools
-from collections.abc import Sequence
+from collections.abc import Mapping, Sequence
 
 from .. import log
 from ..errors import Unfit
@@ -47,25 +47,25 @@ TRANSACTION = versioned("event.block", 1, ORDER, True, field="transaction")
 TIMES = fields(True, ts_ms="int64", ts_us="int64", ts_ns="int64")
 
 
-class Moment:
-    """When something was, in nanoseconds since 1970."""
-
-    def __init__(self, nanoseconds: int) -> None:
-        self.told: dict[str, object] = {
-            "ts_ms": nanoseconds // 1000000,
-            "ts_us": nanoseconds // 1000,
-            "ts_ns": nanoseconds,
-        }
+def times_of(nanoseconds: int) -> dict[str, object]:
+    """When something was, in nanoseconds since 1970, as messages have it."""
+    return {
+        "ts_ms": nanoseconds // 1000000,
+        "ts_us": nanoseconds // 1000,
+        "ts_ns": nanoseconds,
+    }
 
 
 class Source:
     """What all changes of a commit have of their source. Where the commit's time isn't known it is
     that at which its messages were made."""
 
-    def __init__(self, prefix: str, head: Head, commit: Commit, now: Moment, is_base: bool) -> None:
+    def __init__(
+        self, prefix: str, head: Head, commit: Commit, now: Mapping[str, object], is_base: bool
+    ) -> None:
         self.lsn = commit.end if commit.lsn is None else commit.lsn
         before = "null" if is_base else f'"{commit.prev}"'
-        times = now.told if commit.ts_us is None else Moment(commit.ts_us * 1000).told
+        times = now if commit.ts_us is None else times_of(commit.ts_us * 1000)
         self.told: dict[str, object] = {
             "version": VERSION,
             "connector": CONNECTOR,
@@ -117,7 +117,7 @@ class Table:
         relation: Relation,
         primary: Sequence[str],
         settings: Settings,
-        told: set[str],
+        told: log.Once,
         types: TableTypes | None = None,
     ) -> None:
         self.relation, self.primary, self.settings, self.told = (relation, primary, settings, told)
@@ -194,9 +194,8 @@ class Table:
         text = f"{self.relation.text()}: the column {column.name} has a value that its type has no form for ({error})"
         if self.settings[FAILURES] == "fail":
             raise Unfit(f"{text}: leave the table out by --table, or say {FAILURES}=warn") from None
-        if text not in self.told and f"{self.topic} {column.name}" not in self.told:
-            self.told.add(f"{self.topic} {column.name}")
-            log.warning(f"{text}: null is in its place, there and later")
+        where = f"{self.topic} {column.name}"
+        self.told.warning(where, f"{text}: null is in its place, there and later")
 
 
 def text_of(column: Column, cell: bytes) -> str:

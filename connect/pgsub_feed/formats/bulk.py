@@ -84,7 +84,7 @@ class Bulk(Objects):
         super().__init__(chosen)
         self.truncated, self.store, self.check = truncated, store, check
         self.command = command
-        self.told = set[str]()
+        self.told = log.Once()
         # by OID: the columns that name documents, and the tables left out since that is no key now
         self.keys = dict[int, list[str]]()
         self.given_up = set[int]()
@@ -99,7 +99,7 @@ class Bulk(Objects):
         for it in self.chosen.events(reader.parts(commit)):
             if isinstance(it, Missed):
                 text = "a change that found no row is left out, and any later one"
-                self.tell("x", f"{commit.text()}: {text}")
+                self.told.warning("x", f"{commit.text()}: {text}")
             elif isinstance(it, Change) and it.op == "t":
                 self.truncate(commit, it.relation, left)
             elif isinstance(it, Change):
@@ -114,11 +114,6 @@ class Bulk(Objects):
             yield json_line({"delete" if row is None else "index": about})
             if row is not None:
                 yield json_line(row)
-
-    def tell(self, what: str, text: str) -> None:
-        if what not in self.told:
-            self.told.add(what)
-            log.warning(text)
 
     def key(self, commit: Commit, relation: Relation) -> list[int]:
         """The columns by which a table's documents are named; none where it is left out."""
@@ -137,7 +132,8 @@ class Bulk(Objects):
             self.give_up(commit, relation, text)
         elif not key:
             text = "has no key, so its rows are no documents and are left out"
-            self.tell(relation.text(), f"{commit.text()}: {relation.text()} {text}{lacks}")
+            told = f"{commit.text()}: {relation.text()} {text}{lacks}"
+            self.told.warning(relation.text(), told)
         return self.found[oid][1]
 
     def primary(self, commit: Commit, relation: Relation) -> tuple[tuple[str, ...], str]:

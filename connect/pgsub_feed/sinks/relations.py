@@ -84,7 +84,7 @@ class Relations:
     ) -> None:
         self.chosen, self.is_keyed_only, self.holder = Chosen(chosen), is_keyed_only, holder
         self.known, self.check = known, check
-        self.told = set[tuple[int, str]]()
+        self.told = log.Once()
         self.load("")
 
     def load(self, text: str) -> None:
@@ -213,9 +213,7 @@ class Relations:
 
     def tell(self, relation: Relation, what: str, text: str, sign: str = ": ") -> None:
         """Tells something of a table once."""
-        if (relation.oid, what) not in self.told:
-            self.told.add((relation.oid, what))
-            log.warning(f"{relation.text()}{sign}{text}")
+        self.told.warning((relation.oid, what), f"{relation.text()}{sign}{text}")
 
     def leave_out(self, relation: Relation, kept: Kept | None) -> None:
         if kept:

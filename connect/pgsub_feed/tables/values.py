@@ -86,16 +86,13 @@ def is_rounded(column: Column) -> bool:
 def numeric_reader(column: Column, of: str) -> Read:
     """What reads a numeric as the nearest number of eight bytes. NaN, which SQLite hasn't, becomes
     Infinity, above all numbers as it is on the server; that is told once."""
-    told = set[bytes]()
+    told = log.Once()
 
     def read(text: bytes) -> Value:
         if text != NAN:
             return read_number(text)
-        if not told:
-            told.add(text)
-            log.warning(
-                f"{of}: the column {column.name} has NaN, which SQLite hasn't: it is Infinity there"
-            )
+        why = "has NaN, which SQLite hasn't: it is Infinity there"
+        told.warning(text, f"{of}: the column {column.name} {why}")
         return math.inf
 
     return read
