@@ -17,13 +17,14 @@ from collections.abc import Callable, Iterable, Iterator
 from typing import Any, Protocol, TypeVar
 
 from .. import log
-from ..errors import Damaged, Passing, Stopped
+from ..errors import Damaged, Passing, Stopped, Unfit
 from ..interruption import Check, limited
 from ..json_texts import Unreadable
 from ..ownership import give, opened
 from ..reader.commits import Commit, Head
 from ..reader.folder import READERS, make_folder
 from ..reader.following import Keeper
+from ..texts import shortened
 from .connecting import Peer
 from .first_rows import Base
 
@@ -73,6 +74,12 @@ class Wanted:
 
     def text(self) -> str:
         return f"{', '.join(self.chosen) or 'all tables'} of {self.head.text()}"
+
+
+def of_another(where: str, found: object, about: object, place: str) -> Unfit:
+    """What tells that something else is kept there, and what to take in its place."""
+    text = f"what is kept there is of {shortened(str(found))}, and this would be of {about}"
+    return Unfit(f"{where}: {text}: take another {place}")
 
 
 class Engine(Keeper, Protocol):

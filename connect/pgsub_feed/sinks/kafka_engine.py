@@ -25,8 +25,8 @@ from ..json_texts import Unreadable, lsn_of, object_of, parsed, whole_of
 from ..known_tables import KnownTables
 from ..reader.commits import Change, Commit
 from ..reader.following import Chosen, Read
-from ..texts import lsn_text, shortened
-from .engine import Alone, Engine, Wanted, read_about, whole
+from ..texts import lsn_text
+from .engine import Alone, Engine, Wanted, of_another, read_about, whole
 from .first_rows import Base, numbered
 from .kafka_client import AROUND, LARGEST, Cluster, parts_of, read_config
 
@@ -91,10 +91,7 @@ class Kafka(Engine):
             text = "its last message isn't a sink's" if said else "its last message is gone"
             raise Unfit(f"{where}: {text}: take another topic.prefix to begin anew") from None
         if found.about != self.about:
-            told = shortened(str(found.about))
-            raise Unfit(
-                f"{where}: what is kept there is of {told}, and this would be of {self.about}: take another topic.prefix"
-            )
+            raise of_another(where, found.about, self.about, "topic.prefix")
         self.left = found if found.attempt is not None else None
         self.at = self.end = found.lsn
         return self.left is None

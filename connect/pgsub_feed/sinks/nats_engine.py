@@ -16,8 +16,8 @@ from ..errors import Passing, TooLarge, Unfit
 from ..interruption import Check, rest
 from ..reader.commits import Commit
 from ..reader.following import Chosen, Read
-from ..texts import lsn_text, shortened
-from .engine import Engine, Trail, Wanted, whole
+from ..texts import lsn_text
+from .engine import Engine, Trail, Wanted, of_another, whole
 from .first_rows import Base, numbered
 from .jetstream import JetStream, Stored
 from .nats_messages import (
@@ -99,9 +99,7 @@ class Nats(Engine):
             text = f"{self.stream.where}: the last message of the commit before is gone: remove it to begin anew"
             raise Unfit(text) from None
         if about != self.about:
-            told = shortened(str(about))
-            text = f"{self.stream.where}: what is kept there is of {told}, and this would be of {self.about}: take another stream"
-            raise Unfit(text)
+            raise of_another(self.stream.where, about, self.about, "stream")
         self.at = self.end = at
         self.trail.note(at, time.monotonic())
         self.part = None if last.place is None else (last.lsn, last.place)

@@ -29,7 +29,7 @@ from ..known_tables import KnownTables
 from ..reader.commits import Change, Commit, Message, Missed, TableLine
 from ..reader.following import Read
 from ..texts import lsn_text, parse_lsn, shortened
-from .engine import Engine, Wanted
+from .engine import Engine, Wanted, of_another
 from .first_rows import Base, numbered
 from .redis_calls import Calls, Command, Said, asked, raised, understood
 from .redis_disk import Disk, fields
@@ -183,10 +183,8 @@ class Redis(Engine):
         with understood(self.calls.where):
             is_same = about is not None and parsed(about) == self.about
         if not is_same:
-            was = shortened((about or b"nothing").decode(errors="replace"))
-            now = json.dumps(self.about)
-            text = f"{self.calls.where}: what is kept there is of {was}, and this would be of {now}: take another database"
-            raise Unfit(text)
+            was, now = (about or b"nothing").decode(errors="replace"), json.dumps(self.about)
+            raise of_another(self.calls.where, was, now, "database")
 
     def reach(self, at: int) -> None:
         self.at = self.end = at

@@ -16,7 +16,7 @@ from ..reader.commits import XID, Cells, Change, Commit, Part, TableLine
 from ..relation import Relation
 from ..texts import identifier
 from .file import OLDER, Rows
-from .set_aside import CANT_KEEP, Unkept, is_of_table, reason
+from .set_aside import CANT_KEEP, Unkept, reason
 from .table import Kept
 from .user_sql import has_triggers, has_unique_indexes
 from .values import Value
@@ -268,8 +268,6 @@ class Applier:
             self.take(kept, changes)
             return
         except CANT_KEEP as error:
-            if not is_of_table(error):
-                raise
             why = reason(error)
         self.kept[relation.oid] = None
         self.rows.set_aside(relation, at, why)

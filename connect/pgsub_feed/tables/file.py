@@ -25,7 +25,7 @@ from .schema import (
     read_definition,
     read_folder,
 )
-from .set_aside import CANT_KEEP, Asides, Unkept, is_of_table, nested, reason
+from .set_aside import CANT_KEEP, Asides, Unkept, nested, reason
 from .sqlite_files import inode_of
 from .table import IS_MINUS_ZERO, Kept, is_minus_zero
 from .user_sql import Init
@@ -218,8 +218,6 @@ class Rows:
             with nested(self.db):
                 return self.shape(relation)
         except CANT_KEEP as error:
-            if not is_of_table(error):
-                raise
             why = reason(error)
         self.reload_within()
         self.set_aside(relation, at, why)

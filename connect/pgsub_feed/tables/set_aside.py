@@ -56,13 +56,11 @@ def nested(db: sqlite3.Connection) -> Iterator[None]:
             db.execute("RELEASE nested")
 
 
-def is_of_table(error: Exception) -> bool:
-    """Whether what is wrong is so of one table, and not of the whole file."""
-    return not isinstance(error, sqlite3.OperationalError) or any(it in str(error) for it in TAKEN)
-
-
 def reason(error: Exception) -> str:
-    """Why a table can't be kept."""
+    """Why a table can't be kept. Raises what is wrong with the whole file."""
+    is_other = isinstance(error, sqlite3.OperationalError)
+    if is_other and not any(it in str(error) for it in TAKEN):
+        raise error
     if isinstance(error, Unkept):
         return error.why
     if isinstance(error, sqlite3.DataError):
