@@ -9,7 +9,7 @@ from ..interruption import Check
 from ..json_texts import compact
 from ..reader.commits import HEAD, Commit, Head
 from ..reader.folder import noted_of
-from ..reader.lines import DEFINITION, FORMAT, MOST_DEFINITIONS, parsed, read_relation
+from ..reader.lines import DEFINITION, FORMAT, Decoder
 from ..reader.polling import Poll
 from ..reader.whole import Whole
 from ..relation import Relation
@@ -42,11 +42,11 @@ class Serving:
         self.reader = Whole(feed, self.at)
         self.poll = Poll(self.reader, follows, self.check)
         self.sent = self.at or 0
-        # what the catalog says, and which of it the reader has; definitions by their lines, and which
-        # of them the reader has
+        # what the catalog says, and which of it the reader has; what reads definitions, and which of
+        # them the reader has
         self.types = FeedTypes(feed, self.check)
         self.given = self.types.text
-        self.definitions, self.told = dict[bytes, Relation](), Told()
+        self.decoder, self.told = Decoder(), Told()
 
     def first(self) -> int | None:
         line = self.pipes.line().strip()
@@ -119,12 +119,9 @@ class Serving:
 
     def defined(self, line: bytes) -> Relation | None:
         """What a line defines. (Of one that is spoiled the reader says so.)"""
-        if line not in self.definitions:
-            if len(self.definitions) >= MOST_DEFINITIONS:
-                self.definitions.clear()
-            with contextlib.suppress(KeyError, TypeError, ValueError):
-                self.definitions[line] = read_relation(parsed(line))
-        return self.definitions.get(line)
+        with contextlib.suppress(KeyError, TypeError, ValueError):
+            return self.decoder.defined(line).relation
+        return None
 
     def wait_for_end(self) -> None:
         """(The last that the reader has is still to come.)"""

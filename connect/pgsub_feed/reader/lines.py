@@ -294,7 +294,7 @@ class Decoder:
         return table
 
     def defined(self, line: bytes) -> TableLine:
-        return self.table(line, parsed(line))
+        return self.known.get(line) or self.table(line, parsed(line))
 
     def tell(self, at: int, table: TableLine) -> None:
         """Says which definition stands at an offset of the segment."""

@@ -307,16 +307,13 @@ class Reader:
     def raw(self, commit: Commit) -> Iterable[list[bytes]]:
         """The lines of the commit that was taken last, without their ends, some at a time."""
         assert self.segment
-        return self.lines(self.segment, commit)
-
-    def lines(self, segment: Segment, commit: Commit) -> Iterable[list[bytes]]:
         end = self.body + commit.bytes
         if len(self.kept) == 1:
             # (as of most commits)
             *lines, rest = self.kept[0].split(b"\n")
             if not rest:
                 return (lines,)
-        return segment.lines(self.kept or segment.pieces(self.body, end), end)
+        return self.segment.lines(self.kept or self.segment.pieces(self.body, end), end)
 
     def line_at(self, at: int) -> bytes | None:
         """The line at an offset of the segment, in the commit that was taken last or before it."""
@@ -345,14 +342,13 @@ class Reader:
     def parts(self, commit: Commit) -> Iterator[Part]:
         """What the commit that was taken last has, in order."""
         assert self.segment
-        segment, path, body = self.segment, self.segment.path, self.body
-        decoder = self.decoder
+        path, body, decoder = self.segment.path, self.body, self.decoder
         decoder.begin(
             commit,
             lambda number, offset, what: Damaged(number, path, body + offset, what),
             self.line_at,
         )
-        for lines in self.lines(segment, commit):
+        for lines in self.raw(commit):
             yield from decoder.read(lines)
         decoder.finish()
 
