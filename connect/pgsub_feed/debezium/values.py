@@ -6,6 +6,7 @@ are counted in the proleptic Gregorian calendar, in which the year before 1 is 0
 """
 
 import base64
+import datetime
 import math
 import re
 import struct
@@ -132,6 +133,8 @@ SECOND, DAY = 10**6, 86400 * 10**6
 MONTH = 2629800 * SECOND
 LEAST, MOST = -(1 << 63), (1 << 63) - 1
 LEAST_DAY, MOST_DAY = -(1 << 31), (1 << 31) - 1
+# The days of 400 years, after which the calendar comes again; and the ordinal of 1970-01-01.
+ERA, EPOCH = 146097, datetime.date(1970, 1, 1).toordinal()
 # What Debezium has in place of infinite times, in microseconds.
 INFINITE = {"infinity": 9223372036825200000, "-infinity": -9223372036832400000}
 INFINITE_DAYS = {"infinity": MOST_DAY, "-infinity": LEAST_DAY}
@@ -159,22 +162,16 @@ def fitting(
 
 
 def days_of(year: int, month: int, day: int) -> int:
-    """The days from 1970 on. (Years begin in March, so that a leap day is the last one.)"""
-    year, month = (year, month - 3) if month > 2 else (year - 1, month + 9)
-    era, of_era = divmod(year, 400)
-    of_year = (153 * month + 2) // 5 + day - 1
-    return era * 146097 + of_era * 365 + of_era // 4 - of_era // 100 + of_year - 719468
+    """The days from 1970 on."""
+    eras, years = divmod(year - 1, 400)
+    return ERA * eras + datetime.date(years + 1, month, day).toordinal() - EPOCH
 
 
 def date_of(days: int) -> tuple[int, int, int]:
     """Year, month and day."""
-    era, rest = divmod(days + 719468, 146097)
-    of_era = (rest - rest // 1460 + rest // 36524 - rest // 146096) // 365
-    rest -= 365 * of_era + of_era // 4 - of_era // 100
-    month = (5 * rest + 2) // 153
-    day = rest - (153 * month + 2) // 5 + 1
-    year = 400 * era + of_era
-    return (year, month + 3, day) if month < 10 else (year + 1, month - 9, day)
+    eras, rest = divmod(days + EPOCH - 1, ERA)
+    found = datetime.date.fromordinal(rest + 1)
+    return 400 * eras + found.year, found.month, found.day
 
 
 def read_days(text: str) -> int:
