@@ -191,10 +191,8 @@ class Recorder(Worker):
 
     def connect(self) -> Connection:
         """Connects, and looks for what the server's version hasn't got."""
-        subscription = self.subscription
-        self.connection = connection = Connection(
-            subscription.dsn, replication=True, name=subscription.slot, check=self.check_stop
-        )
+        connection = self.subscription.connect(self.check_stop, replication=True)
+        self.connection = connection
         session.settle(connection)
         if connection.version() < session.STREAMS:
             version = connection.parameter("server_version")

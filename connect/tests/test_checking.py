@@ -14,7 +14,7 @@ from pgsub_connect.commands import check
 from pgsub_connect.errors import ServerError
 from pgsub_connect.preconditions import require, results
 from pgsub_connect.preconditions import ERROR, OK, WARNING, Purpose, Result
-from pgsub_connect.server import preflight
+from pgsub_connect.server import preflight, session
 from pgsub_connect.server.preflight import (
     Facts,
     PublicationFacts,
@@ -24,6 +24,7 @@ from pgsub_connect.server.preflight import (
     source_wanted,
 )
 from pgsub_connect.server.publication_setup import Wanted
+from pgsub_connect.server.session import Subscription
 from pgsub_connect.server.slot import Slot, read_slot
 from pgsub_connect.server.transport import Protection
 from pgsub_feed.errors import UsageError
@@ -490,8 +491,8 @@ class Members(unittest.TestCase):
         self.server.answer("'rds_replication'", [["rds_replication"]])
 
     def test_the_server_is_asked_by_trying(self) -> None:
-        with mock.patch.object(preflight, "Connection", self.server.connect):
-            found = preflight.all_facts("", "pgsub", Wanted(["pgsub"]), lambda: None)
+        with mock.patch.object(session, "Connection", self.server.connect):
+            found = preflight.all_facts(Subscription(), Wanted(["pgsub"]), lambda: None)
         self.assertEqual((found.has_replicated, found.replicators), (True, "rds_replication"))
         self.assertEqual([it.level for it in results(found, Purpose()) if it.name == "role"], [OK])
 
@@ -508,8 +509,8 @@ class Connecting(unittest.TestCase):
                 raise ServerError("no pg_hba.conf entry for replication connection")
             return server.connect(dsn)
 
-        with mock.patch.object(preflight, "Connection", connect):
-            found = preflight.all_facts("", "pgsub", Wanted(["pgsub"]), lambda: None)
+        with mock.patch.object(session, "Connection", connect):
+            found = preflight.all_facts(Subscription(), Wanted(["pgsub"]), lambda: None)
         self.assertIn("pg_hba.conf", found.replication_error)
         self.assertEqual(server.opened, server.closed)
 

@@ -34,7 +34,7 @@ from pgsub_connect.drift.remembered import Remembered
 from pgsub_connect.errors import ServerError
 from pgsub_connect.server import publication_setup, session, waits as waits_module
 from pgsub_connect.server.catalog import Catalog, Partition, Table
-from pgsub_connect.server.publication_setup import Wanted
+from pgsub_connect.server.publication_setup import Maker, Wanted
 from pgsub_connect.server.session import Subscription
 from pgsub_connect.status.progress import Progress
 from pgsub_connect.store import checkpoint_lines
@@ -169,8 +169,7 @@ class Copying(Quiet):
         server.answer("pg_drop_replication_slot", self.slot_dropped)
         server.lines = [b"1\t5\n", b"2\t\\N\n"]
         self.tables = [STOCK]
-        for module in (copy_slot, slots, publication_setup, waits_module, session):
-            self.patch(module, "Connection", server.connect)
+        self.patch(session, "Connection", server.connect)
         self.patch(table_reader, "LOOK", 0.001)
         self.patch(tables_module, "published_tables", lambda *_: list(self.tables))
         self.patch(publication_setup, "publishable_tables", lambda _: ['"public"."stock"'])
@@ -665,7 +664,7 @@ class Ends(Copying):
         def connect(*_: object, **__: object) -> object:
             raise ServerError("no route")
 
-        self.patch(copy_slot, "Connection", connect)
+        self.patch(session, "Connection", connect)
         with self.assertRaises(Passing):
             self.copier().run()
 
@@ -1171,9 +1170,11 @@ class Slots(Copying):
     """A slot without rows."""
 
     def make(self, remembered: Remembered | None = None) -> None:
-        create_slot(
-            Subscription(publications=["pgsub"]), Wanted(["pgsub"]), False, lambda: None, remembered
-        )
+        told = Subscription(publications=["pgsub"]), Wanted(["pgsub"]), lambda: None
+        maker = Maker(*told)
+        if remembered:
+            maker = Maker(*told, remembered.made, remembered.keep_made)
+        create_slot(maker, False, remembered)
 
     def test_what_is_published_is_remembered(self) -> None:
         remembered = Remembered(self.store)
@@ -1232,14 +1233,14 @@ class Waiting(Quiet):
         self.server = FakeServer()
         self.server.answer("pg_stat_activity", [["5", "app", "shop", "70"], ["6", "x", "y", None]])
         self.server.answer("pg_prepared_xacts", [["gid'1", "app", "other", "700"]])
-        patch = mock.patch.object(waits_module, "Connection", self.server.connect)
+        patch = mock.patch.object(session, "Connection", self.server.connect)
         patch.start()
         self.addCleanup(patch.stop)
 
     def test_it_is_told_after_ten_seconds_and_each_minute(self) -> None:
         clock = [100.0]
         with mock.patch("time.monotonic", lambda: clock[0]):
-            waits = waits_module.Waiting("", "pgsub", lambda: None)
+            waits = waits_module.Waiting(Subscription(), lambda: None)
             for now, lines in ((109.9, 0), (110.0, 1), (169.0, 1), (170.1, 2), (200.0, 2)):
                 clock[0] = now
                 waits.check()
@@ -1255,7 +1256,7 @@ class Waiting(Quiet):
         self.server.answer("pg_blocking_pids(4711)", [["8", "app", "shop", "12"]])
         with mock.patch.object(waits_module, "FIRST", 0):
             waits_module.Waiting(
-                "", "pgsub", lambda: None, waits_module.lock_text("the copy", 4711)
+                Subscription(), lambda: None, waits_module.lock_text("the copy", 4711)
             ).check()
         self.assertEqual(
             self.said, ["the copy waits for the locks of process 8 (app, database shop) for 12 s"]
@@ -1265,14 +1266,14 @@ class Waiting(Quiet):
         self.server.answer("pg_blocking_pids(4711)", [])
         with mock.patch.object(waits_module, "FIRST", 0):
             waits_module.Waiting(
-                "", "pgsub", lambda: None, waits_module.lock_text("the copy", 4711)
+                Subscription(), lambda: None, waits_module.lock_text("the copy", 4711)
             ).check()
         self.assertEqual((self.said, self.server.opened, self.server.closed), ([], 1, 1))
 
     def test_a_standby(self) -> None:
         self.server.answer("pg_is_in_recovery", [["t"]])
         with mock.patch.object(waits_module, "FIRST", 0):
-            waits_module.Waiting("", "pgsub", lambda: None).check()
+            waits_module.Waiting(Subscription(), lambda: None).check()
         self.assertIn("pg_log_standby_snapshot()", self.said[0])
 
     def test_a_signal_is_heard(self) -> None:
@@ -1280,7 +1281,7 @@ class Waiting(Quiet):
             raise Stopped
 
         with self.assertRaises(Stopped):
-            waits_module.Waiting("", "pgsub", stop).check()
+            waits_module.Waiting(Subscription(), stop).check()
 
 
 if __name__ == "__main__":

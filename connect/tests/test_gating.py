@@ -12,6 +12,7 @@ from unittest import mock
 from pgsub_connect.add import requests, turn
 from pgsub_connect.errors import Delayed, ServerError, Unrepaired
 from pgsub_connect.follow import schedule
+from pgsub_connect.server import session
 from pgsub_connect.server.session import Subscription
 from pgsub_connect.status.progress import Progress
 from pgsub_connect.stream import gate
@@ -79,7 +80,7 @@ class Looks(Quiet):
         self.server = FakeServer()
         self.ends: list[Row | ServerError] = []
         self.server.answer("pg_locks", self.answer)
-        patch = mock.patch.object(gate, "Connection", self.server.connect)
+        patch = mock.patch.object(session, "Connection", self.server.connect)
         patch.start()
         self.addCleanup(patch.stop)
         self.now = [100.0]

@@ -186,8 +186,7 @@ class Servers(Quiet):
         self.server.answer("CREATE_REPLICATION_SLOT", [["x", "0/200", "snap", "pgoutput"]])
         self.tables = [self.table]
         self.replace("pgsub_connect.copy.source.LOOK", 0.001)
-        for where in ("server.session", "server.waits"):
-            self.replace(f"pgsub_connect.{where}.Connection", self.server.connect)
+        self.replace("pgsub_connect.server.session.Connection", self.server.connect)
         self.replace("pgsub_connect.copy.source.published_tables", lambda *_: list(self.tables))
         self.replace("pgsub_connect.copy.tables.are_so_named", lambda *_: True)
 

@@ -9,12 +9,13 @@ import unittest
 from unittest import mock
 
 from pgsub_connect.errors import ServerError
-from pgsub_connect.server import publication_setup
+from pgsub_connect.server import publication_setup, session
 from pgsub_connect.server.catalog import Leaves, Part, Table
 from pgsub_connect.server.catalog_reader import read_parts
 from pgsub_connect.server.publication_setup import Maker, Wanted, names_of
 from pgsub_connect.server.publications import published_tables, united, with_cure
 from pgsub_connect.server.replica_identity import identity, publishable_tables
+from pgsub_connect.server.session import Subscription
 from pgsub_feed.errors import Stopped
 from pgsub_feed.relation import Column, Shape
 
@@ -276,7 +277,7 @@ class Making(Quiet):
         self.theirs: tuple[str, ...] = ()
         server.answer("SELECT p.oid FROM pg_catalog.pg_publication p", self.oid)
         server.answer("c.relkind IN ('r', 'p') AND NOT", [["public", "stock"], ["public", "audit"]])
-        patch = mock.patch.object(publication_setup, "Connection", server.connect)
+        patch = mock.patch.object(session, "Connection", server.connect)
         patch.start()
         self.addCleanup(patch.stop)
 
@@ -303,7 +304,7 @@ class Making(Quiet):
         )
 
     def maker(self, **wanted: object) -> Maker:
-        return Maker("", Wanted(["pgsub"], **wanted), "pgsub", lambda: None)  # type: ignore[arg-type]
+        return Maker(Subscription(), Wanted(["pgsub"], **wanted), lambda: None)  # type: ignore[arg-type]
 
     def made(self) -> list[str]:
         return self.server.told("CREATE PUBLICATION")
@@ -559,7 +560,7 @@ class Making(Quiet):
         def look(connection: object, names: list[str]) -> None:
             raise ServerError(f"denied {names}", "42501")
 
-        maker = Maker("", Wanted(["pgsub"]), "pgsub", lambda: None, look)
+        maker = Maker(Subscription(), Wanted(["pgsub"]), lambda: None, look=look)
         self.refused(maker, r"denied \['pgsub'\]")
 
     def test_keyless_tables_of_a_publication_that_is_there_are_told(self) -> None:
@@ -577,7 +578,7 @@ class Making(Quiet):
         self.there("pgsub_inserts")
         self.server.answer("SELECT p.pubinsert, p.pubupdate", [["t", "f", "f", "t"]])
         self.keyless([["5", "public", "audit"]])
-        Maker("", Wanted(["pgsub_inserts"]), "pgsub", lambda: None).make()
+        Maker(Subscription(), Wanted(["pgsub_inserts"]), lambda: None).make()
         self.assertEqual(self.said, [])
 
     def test_what_somebody_else_made_since_stays(self) -> None:

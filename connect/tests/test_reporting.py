@@ -260,7 +260,7 @@ class Asks(Quiet):
     def setUp(self) -> None:
         super().setUp()
         self.server = FakeServer()
-        patch = mock.patch.object(server_watch, "Connection", self.server.connect)
+        patch = mock.patch.object(session, "Connection", self.server.connect)
         patch.start()
         self.addCleanup(patch.stop)
         self.server.answer("pg_postmaster_start_time", [["7"]])

@@ -22,7 +22,7 @@ from pgsub_connect.cli import main
 from pgsub_connect.commands import follow, names
 from pgsub_connect.commands.drop import ask_terminal
 from pgsub_connect.errors import FilterFault, ServerError
-from pgsub_connect.server import preflight
+from pgsub_connect.server import session
 from pgsub_connect.server.login import connection_error
 from pgsub_connect.server.preflight import require_published
 from pgsub_connect.server.publication_setup import Wanted
@@ -424,7 +424,7 @@ class Compares(Quiet):
                 if f"SELECT {oid}::" in it
             ],
         )
-        patch = mock.patch.object(preflight, "Connection", self.server.connect)
+        patch = mock.patch.object(session, "Connection", self.server.connect)
         patch.start()
         self.addCleanup(patch.stop)
 

@@ -75,7 +75,7 @@ def settled(options: Options) -> Options:
 def run(options: Options, check: Check) -> int:
     # (that of TLS is among them)
     OWN.keep_quiet()
-    facts = all_facts(options.dsn, options.slot, options.wanted(options.publication), check)
+    facts = all_facts(options.subscription(), options.wanted(options.publication), check)
     found = results(facts, options.purpose())
     if options.store and is_whole(options.store):
         found.append(judge_rows(options.pgsub or program(), options.store, check))

@@ -27,6 +27,7 @@ from ..follow.snapshots import Snapshots
 from ..record import Aside, Recording
 from ..server import transport
 from ..server.preflight import require_published
+from ..server.publication_setup import Maker
 from ..status.files import STATUS, ReportSettings, Reporter
 from ..status.notify import notifier_of
 from ..status.progress import Progress
@@ -332,7 +333,7 @@ def begin(options: Options, parts: Parts) -> None:
         raise no_store(options)
     if options.create:
         wanted, check = options.wanted(options.publication), parts.follower.ending.check_stop
-        more = check, remembered, bool(options.messages)
-        create_slot(subscription, wanted, options.failover, *more)
+        maker = Maker(subscription, wanted, check, remembered.made, remembered.keep_made)
+        create_slot(maker, options.failover, remembered, bool(options.messages))
     else:
         remembered.remove()

@@ -7,8 +7,9 @@ from pgsub_feed.interruption import Check
 from pgsub_feed.options import add_fields, file, flag, lsn, option
 from pgsub_feed.program import stop_by_signals
 
-from ..copy.slots import create_slot, maker_of
+from ..copy.slots import create_slot
 from ..record import RecordSettings, Recorder, Recording
+from ..server.publication_setup import Maker
 from .arguments import server, words
 from .arguments.session import longest
 from .arguments.words import any_seconds, check_files, check_needs, each, lsn_or_now, within
@@ -94,13 +95,13 @@ def run(options: Options, _: Check) -> int:
         Recording(options.record, options.append, options.bytes, options.mode, options.overwrite),
     )
     stop_by_signals(recorder)
-    maker = maker_of(subscription, wanted, recorder.check_stop)
+    maker = Maker(subscription, wanted, recorder.check_stop)
     try:
         recorder.connect()
         if options.create == "temporary":
             maker.make()
         elif options.create:
-            create_slot(subscription, wanted, options.failover, recorder.check_stop)
+            create_slot(maker, options.failover)
         recorder.run()
     finally:
         maker.take_back()

@@ -32,7 +32,7 @@ from ..drift.remembered import Remembered
 from ..errors import ServerError
 from ..preconditions import require, require_reading
 from ..server.connection import Connection
-from ..server.publication_setup import Wanted
+from ..server.publication_setup import Maker, Wanted
 from ..server.publications import estimated_rows, stored_in
 from ..server.session import Server, Subscription, identify, settle, slot_position
 from ..server.waits import Waiting, lock_text
@@ -47,7 +47,7 @@ from .copy_slot import CopySlot, is_left_open
 from .interrupted import CopyFiles, Interrupted
 from .rows_beside import RowsBeside
 from .sender import Sender
-from .slots import drop_slot, maker_of, set_failover
+from .slots import drop_slot, set_failover
 from .table_reader import LOCK_TIMEOUT, Item, Items, Left, Part, Readers, Reading
 from .tables import CopiedTables
 from .tries import CHANGED, Tries
@@ -95,9 +95,8 @@ class Copier(Worker):
         self.tables = tables = CopiedTables(subscription, remembered)
         most = settings.limits.max_buffered
         self.interrupted = Interrupted(self.files, tables, self.sender, most)
-        self.maker = maker_of(
-            subscription, settings.wanted, self.check_stop, require_reading, remembered
-        )
+        made = remembered.made, remembered.keep_made
+        self.maker = Maker(subscription, settings.wanted, self.check_stop, *made, require_reading)
         # how many rows of a table were sent, and when it was noted last how many tables have
         self.rows, self.noted = 0, 0.0
         self.meter = Meter("copying")
@@ -231,10 +230,10 @@ class Copier(Worker):
 
     def copy(self, plain: Connection) -> None:
         """Makes the slot, and reads the tables under its snapshot."""
-        subscription, beside = self.subscription, self.beside
+        beside = self.beside
         # (from 16 on the server locks a table to say what is published of it)
         what = lock_text("the copy", plain.pid())
-        waiting = Waiting(subscription.dsn, subscription.slot, self.slot.check_all, what)
+        waiting = Waiting(self.subscription, self.slot.check_all, what)
         with plain.checked_by(waiting.check):
             tables = self.tables.published(plain)
             files = stored_in(plain, tables)
@@ -253,7 +252,7 @@ class Copier(Worker):
         reading = Reading(settings.jobs, snapshot, read, sizes, files, settings.limits.max_frame)
         # (from here on another thread asks the connection)
         with plain.checked_by(self.check_stop), contextlib.closing(
-            Readers(subscription, reading, plain, beside)
+            Readers(self.subscription, reading, plain, beside)
         ) as readers:
             self.send(readers, point)
         if self.tables.forget_gone(plain):

@@ -49,10 +49,7 @@ class CopySlot:
 
     def connect(self) -> Connection:
         """Begins an attempt."""
-        slot = self.subscription.slot
-        self.replication = Connection(
-            self.subscription.dsn, replication=True, name=slot, check=self.check_stop
-        )
+        self.replication = self.subscription.connect(self.check_stop, replication=True)
         return self.replication
 
     def close(self) -> None:
@@ -81,14 +78,12 @@ class CopySlot:
     def make_temporary(self) -> tuple[str, int, str]:
         """Makes the temporary slot, as soon as transactions end; its name, point and snapshot."""
         assert self.replication is not None
-        dsn, slot = self.subscription.dsn, self.subscription.slot
-        with self.replication.checked_by(Waiting(dsn, slot, self.check_stop).check):
-            return create_temporary(self.replication, f"{slot[:40]}_copy")
+        with self.replication.checked_by(Waiting(self.subscription, self.check_stop).check):
+            return create_temporary(self.replication, f"{self.subscription.slot[:40]}_copy")
 
     def hold_snapshot(self, snapshot: str) -> str:
         """Has a transaction without locks keep the slot's snapshot, and export it for others."""
-        name = f"{self.subscription.slot} copy"
-        self.holder = holder = Connection(self.subscription.dsn, name=name, check=self.check_all)
+        self.holder = holder = self.subscription.connect(self.check_all, "copy")
         settle(holder)
         holder.run("BEGIN ISOLATION LEVEL REPEATABLE READ READ ONLY")
         take_snapshot(holder, snapshot)
@@ -128,13 +123,11 @@ class CopySlot:
 
     def drop(self, position: int) -> bool:
         """Drops the lasting slot by a connection of its own. Returns whether it is gone."""
-        dsn, slot = self.subscription.dsn, self.subscription.slot
+        slot, check = self.subscription.slot, limited(LIMIT, ServerError("no answer"))
         log.info(f"dropping the slot {slot} again, which may take {LIMIT:.0f} seconds")
-        name, check = f"{slot} copy", limited(LIMIT, ServerError("no answer"))
         try:
-            with contextlib.closing(
-                Connection(dsn, name=name, quiet=True, check=check)
-            ) as connection:
+            connection = self.subscription.connect(check, "copy", quiet=True)
+            with contextlib.closing(connection):
                 # (one that was moved since is somebody else's)
                 if connection.value(of_slot(POSITION, slot)) == str(position):
                     drop = "pg_catalog.pg_drop_replication_slot(s.slot_name)"

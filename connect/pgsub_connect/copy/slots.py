@@ -13,7 +13,7 @@ from ..preconditions import require
 from ..server.catalog_reader import read_catalog
 from ..server.connection import QUICK, Connection
 from ..server.publications import has_publication
-from ..server.publication_setup import Look, Maker, Wanted
+from ..server.publication_setup import Maker
 from ..server.session import Subscription, of_slot, settle, settle_for_slot, slot_position
 from ..server.waits import Waiting
 
@@ -45,38 +45,18 @@ def drop_slot(connection: Connection, slot: str) -> None:
         log.warning(f"the slot {slot} was made and not dropped again: {error}")
 
 
-def maker_of(
-    subscription: Subscription,
-    wanted: Wanted,
-    check: Check,
-    look: Look = lambda connection, names: None,
-    remembered: Remembered | None = None,
-) -> Maker:
-    """What makes the publications that aren't there."""
-    dsn, slot = subscription.dsn, subscription.slot
-    if remembered is None:
-        return Maker(dsn, wanted, slot, check, look)
-    return Maker(dsn, wanted, slot, check, look, remembered.made, remembered.keep_made)
-
-
 def create_slot(
-    subscription: Subscription,
-    wanted: Wanted,
-    failover: bool,
-    check: Check,
-    remembered: Remembered | None = None,
-    messages: bool = False,
+    maker: Maker, failover: bool, remembered: Remembered | None = None, messages: bool = False
 ) -> None:
     """Makes publications and slot, without rows, where they aren't there, and remembers what is
     published from then on.
 
-    Where `check` raises meanwhile, none of them is made.
+    Where the maker's `check` raises meanwhile, none of them is made.
     """
     if remembered:
         remembered.begin_anew()
-    slot, is_made = subscription.slot, False
-    maker = maker_of(subscription, wanted, check, remembered=remembered)
-    connection = Connection(subscription.dsn, replication=True, name=slot, check=check)
+    subscription, check, is_made = maker.subscription, maker.check, False
+    slot, connection = subscription.slot, subscription.connect(check, replication=True)
     try:
         settle(connection)
         is_there = has_slot(connection, subscription, failover, messages)
@@ -118,7 +98,7 @@ def has_slot(
 def make_slot(connection: Connection, subscription: Subscription, check: Check) -> None:
     slot = subscription.slot
     settle_for_slot(connection)
-    with connection.checked_by(Waiting(subscription.dsn, slot, check).check):
+    with connection.checked_by(Waiting(subscription, check).check):
         command = f"CREATE_REPLICATION_SLOT {identifier(slot)} LOGICAL pgoutput NOEXPORT_SNAPSHOT"
         connection.run(command)
     log.info(f"made the slot {slot}")

@@ -159,15 +159,14 @@ class Source:
 
         `check_end`: what is called meanwhile in place of what else is.
         """
-        dsn, slot = self.subscription.dsn, self.subscription.slot
-        waiting = Waiting(dsn, slot, check_end or self.check)
+        waiting = Waiting(self.subscription, check_end or self.check)
         waiting.tell_by(time.monotonic() + seconds - 1)
         check = limited(seconds, no_slot(seconds), waiting.check)
         # (a server that waits for a transaction doesn't see that whoever asked was killed)
         self.replication.run(f"SET lock_timeout = {round(seconds * 1000)}")
         try:
             with self.replication.checked_by(check):
-                name = f"{slot[:40]}_{self.purpose}"
+                name = f"{self.subscription.slot[:40]}_{self.purpose}"
                 _, point, snapshot = create_temporary(self.replication, name)
         except ServerError as error:
             raise no_slot(seconds) if error.sqlstate == LOCK_TIMEOUT else error from None

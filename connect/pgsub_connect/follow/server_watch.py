@@ -94,8 +94,7 @@ class Asker(threading.Thread):
 
     @understood("its settings")
     def connect(self) -> Connection:
-        dsn, name = self.subscription.dsn, f"{self.subscription.slot} status"
-        self.connection = Connection(dsn, name=name, quiet=True, check=self.check)
+        self.connection = self.subscription.connect(self.check, "status", quiet=True)
         self.started = postmaster_start(self.connection)
         query = "SELECT pg_catalog.pg_size_bytes(pg_catalog.current_setting('max_slot_wal_keep_size', true))"
         text = self.connection.value(query, QUICK)

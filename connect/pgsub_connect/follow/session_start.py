@@ -87,10 +87,7 @@ class SessionStart:
 
     def log_in(self) -> Connection:
         self.progress.enter("connecting")
-        subscription = self.subscription
-        return Connection(
-            subscription.dsn, replication=True, name=subscription.slot, check=self.ending.check_stop
-        )
+        return self.subscription.connect(self.ending.check_stop, replication=True)
 
     def begin(self, connection: Connection) -> None:
         """Checks that the store and the slot fit together, and starts the session."""

@@ -16,7 +16,6 @@ from contextlib import closing
 from pgsub_feed.texts import counted
 
 from ..errors import ServerError
-from ..server.connection import Connection
 from ..server.session import postmaster_start
 from ..status.progress import Progress
 from ..stream.filter import Filter
@@ -143,10 +142,9 @@ class Upkeep:
         long: the session may need that long for what is waited for."""
         if not self.schedule.is_silent():
             return
-        subscription = self.subscription
         try:
-            dsn, name, check = subscription.dsn, f"{subscription.slot} check", self.serve_server
-            with closing(Connection(dsn, name=name, quiet=True, check=check)) as connection:
+            connection = self.subscription.connect(self.serve_server, "check", quiet=True)
+            with closing(connection):
                 is_there = postmaster_start(connection) == self.life.progress.server.started
         except ServerError as error:
             # (who is turned away was answered)

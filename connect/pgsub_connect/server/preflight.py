@@ -199,16 +199,17 @@ def tables_facts(connection: Connection, source: str) -> list[TableFacts]:
     return [TableFacts(row[0] or "", *(true(it) for it in row[1:])) for row in rows]
 
 
-def all_facts(dsn: str, slot: str, wanted: Wanted, check: Check) -> Facts:
+def all_facts(subscription: Subscription, wanted: Wanted, check: Check) -> Facts:
     """Everything, by a plain connection, and whether one for replication can be made."""
-    with closing(Connection(dsn, name=f"{slot} check", check=check)) as connection:
-        facts = with_publications(connection, server_facts(connection, slot), wanted)
+    with closing(subscription.connect(check, "check")) as connection:
+        facts = server_facts(connection, subscription.slot)
+        facts = with_publications(connection, facts, wanted)
         prepared = prepared_texts(connection)
         rds = f"SELECT r.rolname FROM pg_catalog.pg_roles r WHERE r.rolname = '{RDS}'"
         provided = "" if facts.role.replicates else connection.value(rds) or ""
     why = ""
     try:
-        Connection(dsn, replication=True, name=f"{slot} check", check=check).close()
+        subscription.connect(check, "check", replication=True).close()
     except ServerError as error:
         why = str(error)
     more = {"replication_error": why, "has_replicated": not why}
@@ -226,8 +227,8 @@ def require_published(subscription: Subscription, wanted: Wanted, check: Check) 
     Which columns and rows they have of a table isn't compared here: what changes of these is found
     at each connection.
     """
-    name, names = f"{subscription.slot} check", ", ".join(map(literal, wanted.publications))
-    with contextlib.closing(Connection(subscription.dsn, name=name, check=check)) as connection:
+    names = ", ".join(map(literal, wanted.publications))
+    with closing(subscription.connect(check, "check")) as connection:
         # (names of tables are looked up as the role does it)
         compare = different_tables if wanted.tables else not_whole
         wrong, others = compare(connection, wanted, names)

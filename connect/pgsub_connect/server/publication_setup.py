@@ -21,6 +21,7 @@ from ..errors import ServerError
 from . import publications
 from .connection import Connection
 from .replica_identity import keyless_tables, publishable_tables, rejected_tables
+from .session import Subscription
 from .waits import Waiting, lock_text
 
 REFUSED, NO_TABLE, NO_RIGHT = "55000", "42P01", "42501"
@@ -61,21 +62,20 @@ class Maker:
     """Makes what is missing of publications, and knows what it made.
 
     `left`: those that earlier runs have made, with their OIDs. `note` is told the OIDs before a
-    publication is there for others.
+    publication is there for others, and before that `look` looks at them.
     """
 
     def __init__(
         self,
-        dsn: str,
+        subscription: Subscription,
         wanted: Wanted,
-        name: str,
         check: Check,
-        look: Look = lambda connection, names: None,
         left: Mapping[str, int] = MappingProxyType({}),
         note: Note = lambda made: None,
+        look: Look = lambda connection, names: None,
     ) -> None:
-        self.dsn, self.wanted, self.name, self.check = dsn, wanted, name, check
-        self.look, self.note, self.left = look, note, dict(left)
+        self.subscription, self.wanted, self.check = subscription, wanted, check
+        self.left, self.note, self.look = dict(left), note, look
         # the publications that are there afterwards, and those that were made: each with its OID
         self.publications = list(wanted.publications)
         self.made: dict[str, int] = {}
@@ -88,11 +88,10 @@ class Maker:
         meanwhile, `take_back` undoes it."""
         before = self.made
         self.publications, self.said, self.begun = list(self.wanted.publications), [], {}
-        self.connection = Connection(self.dsn, name=f"{self.name} publication", check=self.check)
-        try:
-            connection = self.connection
+        self.connection = connection = self.subscription.connect(self.check, "publication")
+        with closing(connection):
             locks = lock_text("the publication", connection.pid())
-            connection.set_check(Waiting(self.dsn, self.name, self.check, locks).check)
+            connection.set_check(Waiting(self.subscription, self.check, locks).check)
             self.path = connection.value("SELECT pg_catalog.current_setting('search_path')") or ""
             self.is_standby = connection.value("SELECT pg_catalog.pg_is_in_recovery()") == "t"
             # (whatever default_transaction_read_only says; a commit might wait for the follower)
@@ -108,8 +107,6 @@ class Maker:
             # (from here on they may be there, whatever becomes of the answer)
             self.made = self.begun
             connection.run("COMMIT")
-        finally:
-            self.connection.close()
         for text in self.said:
             log.warning(text)
         for name in [it for it in self.made if it not in before]:
@@ -122,8 +119,8 @@ class Maker:
         known, made = self.left, self.made
         names = [it for it in names if it in known and made.get(it) != known[it]]
         left = [it for it in names if known[it] == publications.oid_of(connection, it)]
-        is_kept = self.wanted.keeps or self.is_standby
-        if left and not is_kept and not publications.other_slots(connection, self.name):
+        is_kept, slot = self.wanted.keeps or self.is_standby, self.subscription.slot
+        if left and not is_kept and not publications.other_slots(connection, slot):
             connection.run(f"DROP PUBLICATION {', '.join(map(identifier, left))}")
             log.info(f"an earlier run has left the publication {names_of(left)}: it is made anew")
 
@@ -291,9 +288,10 @@ class Maker:
         if not made:
             return []
         log.info(f"dropping {', '.join(made)} again, which may take {LIMIT:.0f} seconds")
-        name, check = f"{self.name} publication", limited(LIMIT, ServerError("no answer"))
+        check = limited(LIMIT, ServerError("no answer"))
         try:
-            with closing(Connection(self.dsn, name=name, quiet=True, check=check)) as connection:
+            connection = self.subscription.connect(check, "publication", quiet=True)
+            with closing(connection):
                 publications.drop_publications(connection, made)
         except (ServerError, Unfit) as error:
             log.warning(

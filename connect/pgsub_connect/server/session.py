@@ -30,13 +30,19 @@ class Subscription:
         """Notes the publications that were made or found."""
         self.publications = list(names)
 
+    def connect(
+        self, check: Check, purpose: str = "", *, replication: bool = False, quiet: bool = False
+    ) -> Connection:
+        """A connection. Its name there is the slot's, and says what for."""
+        name = f"{self.slot} {purpose}" if purpose else self.slot
+        return Connection(self.dsn, replication=replication, name=name, quiet=quiet, check=check)
+
     @contextlib.contextmanager
     def connected(
         self, purpose: str, check: Check, replication: bool = False
     ) -> Iterator[Connection]:
-        """Another connection, settled. Its name there says what for."""
-        name = f"{self.slot} {purpose}"
-        connection = Connection(self.dsn, replication=replication, name=name, check=check)
+        """Another one, settled."""
+        connection = self.connect(check, purpose, replication=replication)
         with contextlib.closing(connection):
             settle(connection)
             yield connection

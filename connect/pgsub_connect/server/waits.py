@@ -10,6 +10,7 @@ from pgsub_feed.interruption import Check
 
 from ..errors import ServerError, understood
 from .connection import Connection
+from .session import Subscription
 
 # After how many seconds it is told first, and again.
 FIRST, AGAIN = 10.0, 60.0
@@ -80,9 +81,12 @@ class Waiting:
     """Is asked while something is waited for, of which `text` says what, "" for nothing."""
 
     def __init__(
-        self, dsn: str, slot: str, check_stop: Check, text: Callable[[Connection], str] = slot_text
+        self,
+        subscription: Subscription,
+        check_stop: Check,
+        text: Callable[[Connection], str] = slot_text,
     ) -> None:
-        self.dsn, self.slot, self.check_stop, self.text = dsn, slot, check_stop, text
+        self.subscription, self.check_stop, self.text = subscription, check_stop, text
         self.next = time.monotonic() + FIRST
 
     def tell_by(self, at: float) -> None:
@@ -95,8 +99,8 @@ class Waiting:
             return
         self.next = time.monotonic() + AGAIN
         try:
-            name, check = f"{self.slot} status", self.check_stop
-            with closing(Connection(self.dsn, name=name, quiet=True, check=check)) as connection:
+            connection = self.subscription.connect(self.check_stop, "status", quiet=True)
+            with closing(connection):
                 text = self.text(connection)
         except ServerError as error:
             text = f"what is waited for can't be told: {error}"

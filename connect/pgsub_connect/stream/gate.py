@@ -116,8 +116,7 @@ class Gating:
         self.end = at
 
     def connect(self) -> Connection:
-        name = f"{self.subscription.slot} hold"
-        self.connection = Connection(self.subscription.dsn, name=name, quiet=True, check=self.check)
+        self.connection = self.subscription.connect(self.check, "hold", quiet=True)
         return self.connection
 
     def end_session(self) -> None:
