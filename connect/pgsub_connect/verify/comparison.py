@@ -152,9 +152,6 @@ class Compared:
         self.left |= {it.oid: f"{it.text()} was {why[it.oid]} meanwhile" for it in left}
         return [it for it in tables if it.oid not in why]
 
-    def note_different(self, tables: list[Table]) -> None:
-        self.different += tables
-
     def names(self) -> str:
         return names_of(list(self.left.values()))
 

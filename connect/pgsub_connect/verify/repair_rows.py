@@ -109,7 +109,7 @@ class Mender:
 
     def has_shape(self, table: Table) -> bool:
         """Whether the copy has a table under the same definition; leaves it where it hasn't."""
-        here = self.sides.copy.relation(table.oid)
+        here = self.sides.copy.relations.get(table.oid)
         known = here and (here.shape.identity, [(it.name, it.key) for it in here.shape.columns])
         if known and known != (table.identity, [(it.name, it.key) for it in table.columns]):
             self.leave(table, "the copy has it under another definition")

@@ -5,10 +5,10 @@ Their rows are summed up by chunks, as the module `verify.digests` says, and rea
 their keys' bytes.
 """
 
+import abc
 import collections
 import itertools
 from collections.abc import Iterable, Iterator
-from typing import Protocol
 
 from pgsub_feed.errors import Unfit
 from pgsub_feed.interruption import Check
@@ -38,28 +38,36 @@ Row = tuple[bytes, bytes, int]
 Difference = tuple[bytes, Group, Group]
 
 
-class Copied(Protocol):
-    """A copy as of the LSN. `counts`: about how many rows each table has, by OID."""
+class Copied(abc.ABC):
+    """A copy as of the LSN. By OID: `relations` has the definitions of its tables, but for those of
+    which nothing ever came, and `counts` about how many rows each has."""
 
+    relations: dict[int, Relation]
     counts: dict[int, int]
 
     def columns(self, table: Table) -> list[str]:
         """The names of a table's columns here; the server's where nothing of it ever came."""
-
-    def relation(self, oid: int) -> Relation | None:
-        """A table's definition here, None where nothing of it ever came."""
+        return [it.name for it in (self.relations.get(table.oid) or table).shape.columns]
 
     def left(self, tables: Iterable[Table]) -> list[Relation]:
         """The tables that have rows here and aren't among these."""
+        oids = self.relations.keys() - {it.oid for it in tables}
+        return [it for oid, it in self.relations.items() if oid in oids and self.counts.get(oid)]
 
+    @abc.abstractmethod
     def sums(self, plans: Iterable[Plan]) -> dict[int, Sums]:
-        """Those of each table."""
+        """Those of each table, by its rows."""
 
+    def digested(self, plans: Iterable[Plan]) -> dict[int, Sums]:
+        """Those of tables with one chunk, by the digests that are kept, if any are."""
+        return self.sums(plans)
+
+    @abc.abstractmethod
     def rows(self, plan: Plan, chunks: list[int]) -> Iterator[Row]:
         """The rows of some chunks, in the order of their keys."""
 
 
-class Copy:
+class Copy(Copied):
     """The copy as of the LSN: a store's file."""
 
     def __init__(self, path: str, told: str, point: int, check: Check) -> None:
@@ -72,17 +80,7 @@ class Copy:
             raise Unfit(text)
         self.relations = read_relations(self.base)
         counts = self.base.execute("SELECT oid, count(*) FROM held GROUP BY oid")
-        self.counts: dict[int, int] = dict(counts)
-
-    def columns(self, table: Table) -> list[str]:
-        return [it.name for it in (self.relations.get(table.oid) or table).shape.columns]
-
-    def relation(self, oid: int) -> Relation | None:
-        return self.relations.get(oid)
-
-    def left(self, tables: Iterable[Table]) -> list[Relation]:
-        known = {it.oid for it in tables}
-        return [it for oid, it in self.relations.items() if oid not in known and oid in self.counts]
+        self.counts = dict(counts)
 
     def sums(self, plans: Iterable[Plan]) -> dict[int, Sums]:
         """Those of each table, by one pass over the file."""
@@ -171,6 +169,10 @@ class Sides:
                 chunk, rows, first, second = (int(it or 0) for it in row)
                 sums.set(chunk, rows, first, second)
         return sums
+
+    def digested(self, plans: list[Plan]) -> dict[int, Sums]:
+        """Those of tables with one chunk, by the digests that are kept, if any are."""
+        return {it.table.oid: self.sums(it) for it in plans}
 
     def differing(self, plan: Plan, chunks: list[int]) -> Iterator[Difference]:
         """The keys in some chunks whose rows differ."""

@@ -129,7 +129,7 @@ def compare(comparison: StoreComparison, choose: Choose, found: Compared, check:
         is_equal = verifier.run(tables)
     text = f"{counted(len(tables), 'table')}, {counted(verifier.rows, 'row')} on the server at {lsn_text(point)}"
     log.info(f"{text}: {'equal' if is_equal else 'the copy differs'}")
-    found.note_different(verifier.different)
+    found.different.extend(verifier.different)
 
 
 def repair(comparison: StoreComparison, found: Compared, check: Check) -> list[Table]:

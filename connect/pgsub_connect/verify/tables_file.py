@@ -43,7 +43,7 @@ from ..store.checkpoint import read_known
 from ..store.checkpoint_lines import FOLLOWING, Known
 from .comparison import DIFFERENT, EQUAL, Choose, Compared, Verifier, settled, tell_left
 from .digests import Plan, Sums, chunks_for
-from .sides import Difference, Sides, differing
+from .sides import Row, Sides
 from .view import View, check_tables
 
 
@@ -65,32 +65,20 @@ class TablesComparison:
     show: int = 20
 
 
-class Tables(Sides):
-    """A server, and a file of tables."""
-
-    def __init__(self, source: Source, view: View) -> None:
-        super().__init__(source, view)
-        self.view = view
-
-    def digested(self, plans: list[Plan]) -> tuple[dict[int, Sums], dict[int, Sums]]:
-        """The sums of both sides of tables with one chunk, by the digests that are kept."""
-        return {it.table.oid: self.sums(it) for it in plans}, self.view.digested(plans)
-
-
-class Files(Tables):
+class Files(Sides):
     """Another file, and this one."""
 
     names, more = ("other", "copy"), ("more_in_other", "more_in_copy")
     places = ("in the other file", "in the copy")
 
     def __init__(self, other: View, view: View) -> None:
-        self.other, self.view, self.copy = other, view, view
+        self.other, self.copy = other, view
         # (the sums of all tables are made at once, by one pass over the feed)
         self.plans: list[Plan] = []
         self.found: dict[int, Sums] = {}
 
     def plan(self, table: Table) -> Plan:
-        rows = max(it.counts.get(table.oid, 0) for it in (self.other, self.view))
+        rows = max(it.counts.get(table.oid, 0) for it in (self.other, self.copy))
         self.plans.append(Plan(table, chunks_for(rows)))
         return self.plans[-1]
 
@@ -99,21 +87,19 @@ class Files(Tables):
             self.found = self.other.sums(self.plans)
         return self.found[plan.table.oid]
 
-    def digested(self, plans: list[Plan]) -> tuple[dict[int, Sums], dict[int, Sums]]:
-        return self.other.digested(plans), self.view.digested(plans)
+    def digested(self, plans: list[Plan]) -> dict[int, Sums]:
+        return self.other.digested(plans)
 
-    def differing(self, plan: Plan, chunks: list[int]) -> Iterator[Difference]:
-        return differing(self.other.rows(plan, chunks), self.copy.rows(plan, chunks))
+    def rows(self, plan: Plan, chunks: list[int]) -> Iterator[Row]:
+        return self.other.rows(plan, chunks)
 
 
 class ByDigests(Verifier):
     """Compares tables by the digests that are kept, and of those that differ the rows."""
 
-    sides: Tables
-
     def run(self, tables: list[Table]) -> bool:
         plans = [Plan(it, 1) for it in tables if self.has_columns(it)]
-        theirs, ours = self.sides.digested(plans)
+        theirs, ours = self.sides.digested(plans), self.sides.copy.digested(plans)
         equal = {oid for oid, sums in theirs.items() if not sums.differing(ours[oid])}
         rows = sum(it.total() for it in theirs.values())
         if read := [it.table for it in plans if it.table.oid not in equal]:
@@ -157,7 +143,7 @@ def with_rows(comparison: TablesComparison, view: View, tables: list[Table]) -> 
 
 
 def compare(
-    comparison: TablesComparison, sides: Tables, tables: list[Table], where: str, views: list[View]
+    comparison: TablesComparison, sides: Sides, tables: list[Table], where: str, views: list[View]
 ) -> int:
     """Compares tables, and tells what differs; the exit status."""
     kind = ByDigests if comparison.digests else Verifier
@@ -236,7 +222,7 @@ def compare_with_server(
         followed(comparison, tables)
         tables = with_rows(comparison, view, tables)
         tables = found.leave(tables, {**trail.unknown(view.at), **source.left})
-        sides = Tables(source, view)
+        sides = Sides(source, view)
         tell_left(sides)
         where = f"on the server at {lsn_text(point)}"
         status = compare(comparison, sides, tables, where, [view])

@@ -29,7 +29,7 @@ from pgsub_feed.texts import identifier, parse_lsn
 
 from ..server.catalog import Table
 from .digests import Plan, Summing, Sums
-from .sides import ROWS, Row
+from .sides import ROWS, Copied, Row
 
 
 def check_tables(path: str) -> None:
@@ -42,7 +42,7 @@ def check_tables(path: str) -> None:
         raise FileError(f"{path}: {EARLIER}: what follows the feed makes it anew at its next start")
 
 
-class View:
+class View(Copied):
     """A file's tables at its LSN, `at`, until `close`; with a trail, at the trail's point."""
 
     def __init__(self, path: str, check: Check) -> None:
@@ -76,6 +76,7 @@ class View:
                 self.left_out |= {oid} - self.asides.keys()
             else:
                 self.tables[oid] = Valued(name, *read_definition(text))
+        self.relations = {oid: it.relation for oid, it in self.tables.items()}
         self.counts = {oid: self.count(it) for oid, it in self.tables.items()}
 
     def go_back(self, trail: Trail) -> None:
@@ -90,22 +91,12 @@ class View:
     def count(self, table: Valued) -> int:
         return int(self.db.execute(f"SELECT count(*) FROM {identifier(table.name)}").fetchone()[0])
 
-    def relation(self, oid: int) -> Relation | None:
-        return self.tables[oid].relation if oid in self.tables else None
-
     def is_chosen(self, table: Table) -> bool:
         """Whether the file has a table's rows, or would have them."""
         if table.oid in self.tables:
             return True
         names = names_of(table.namespace, table.name)
         return table.oid not in self.left_out and (not self.chosen or bool(self.chosen & names))
-
-    def columns(self, table: Table) -> list[str]:
-        return [it.name for it in (self.relation(table.oid) or table).shape.columns]
-
-    def left(self, tables: Iterable[Table]) -> list[Relation]:
-        oids = self.tables.keys() - {it.oid for it in tables}
-        return [it.relation for oid, it in self.tables.items() if oid in oids and self.counts[oid]]
 
     def fields(self, plan: Plan) -> Fields | None:
         """What makes the fields of a table's rows, None where it isn't here."""
@@ -126,20 +117,19 @@ class View:
                 yield from map(fields.of_row, several)
 
     def sums(self, plans: Iterable[Plan]) -> dict[int, Sums]:
-        """Those of each table, by its rows."""
         found = {it.table.oid: Summing(it) for it in plans}
         for oid, summing in found.items():
             for fields in self.texts(summing.plan):
                 summing.add_fields(fields, 1)
-            kept = self.digests.get(oid) if oid in self.tables else None
+            kept = self.digests.get(oid) if oid in self.relations else None
             sums = summing.sums
             if kept not in (None, (sums.total(), sum(sums.first), sum(sums.second))):
-                self.wrong.append(self.tables[oid].relation)
+                self.wrong.append(self.relations[oid])
         self.take_back(found)
         return {oid: it.sums for oid, it in found.items()}
 
     def digested(self, plans: Iterable[Plan]) -> dict[int, Sums]:
-        """Those of tables with one chunk, by the file's digests, or else by the rows."""
+        """By the digests that the file keeps, or else by the rows."""
         found, read = dict[int, Summing](), list[Plan]()
         for plan in plans:
             digest = self.digests.get(plan.table.oid)
