@@ -171,22 +171,22 @@ BUGS = (
     Bug(
         "a line on the server that can't be read says nothing",
         "pgsub_connect/stream/watch_lines.py",
-        """on: {left[2]}")\n    return Told(UNWATCHED, UNREAD + said)""",
-        """on: {left[2]}")\n    return None""",
+        "    return Told(UNWATCHED, UNREAD + said)",
+        "    return None if head == WATCH else Told(UNWATCHED, UNREAD + said)",
         ("test_broken_rules",),
     ),
     Bug(
         "a line on commits that can't be read says nothing",
         "pgsub_connect/stream/watch_lines.py",
-        """filter's end: {said}")\n    return Told(UNWATCHED, UNREAD + said)""",
-        """filter's end: {said}")\n    return None""",
+        "    return Told(UNWATCHED, UNREAD + said)",
+        "    return None if head == REPEATS else Told(UNWATCHED, UNREAD + said)",
         ("test_broken_rules",),
     ),
     Bug(
         "another commit than before is one that wasn't watched",
         "pgsub_connect/stream/watch_lines.py",
-        "return Told(REPEAT, said)",
-        "return Told(UNWATCHED, said)",
+        "(CONTRADICTED, REPEAT,",
+        "(CONTRADICTED, UNWATCHED,",
         ("test_broken_rules",),
     ),
     Bug(
@@ -367,8 +367,8 @@ BUGS = (
     Bug(
         "a session that isn't watched any further breaks a rule",
         "pgsub_connect/stream/watch_lines.py",
-        """return Told(UNWATCHED, f"a session""",
-        """return Told(RULE, f"a session""",
+        "(LEFT, UNWATCHED,",
+        "(LEFT, RULE,",
         ("test_broken_rules",),
     ),
     Bug(

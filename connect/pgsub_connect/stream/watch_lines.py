@@ -22,21 +22,35 @@ LEFT = re.compile(r"not watched from ([0-9]{1,20}) on: (.+)")
 LSN = r"[0-9A-F]{1,8}/[0-9A-F]{1,8}"
 # How a commit isn't one of those that came before.
 CONTRADICTED = re.compile(
-    f"the commit that ends at {LSN} (?:came before with another .+|wasn't between those that came before"
-    f"|came before and is left out)|a commit's LSN {LSN} is below the end {LSN} of one that came before"
+    f"(the commit that ends at {LSN} (?:came before with another .+|wasn't between those that came before"
+    f"|came before and is left out)|a commit's LSN {LSN} is below the end {LSN} of one that came before)"
 )
 UNCOMPARED = re.compile(r"not compared from ([0-9]{1,20}) on: (.+)")
-UNKEPT = re.compile(r"can't write .+: not kept")
-# What it has noted, at its beginning, and what it found, at its end.
-NOTED = re.compile(f"[0-9]{{1,20}} commits are noted, up to ({LSN})(?:, .+)?")
-COUNTED = re.compile("[0-9]{1,20} equal, [0-9]{1,20} unknown, [0-9]{1,20} forgotten")
-# What of that tells nothing.
+UNKEPT = re.compile(r"(can't write .+: not kept)")
+# What is told of these, and of which kind that is.
+FORMS = {
+    WATCH: (
+        (BROKEN, RULE, "{} broken by the frame at byte {} of a session: {}"),
+        (LEFT, UNWATCHED, "a session from its frame at byte {} on: {}"),
+    ),
+    REPEATS: (
+        (CONTRADICTED, REPEAT, "{}"),
+        (UNCOMPARED, UNWATCHED, "commits that came again from the frame at byte {} on: {}"),
+        (UNKEPT, UNWATCHED, "commits that come again after the filter's end: {}"),
+    ),
+}
+UNREAD = "what the filter said of it can't be read: "
+# The line with what it has noted, at its beginning, and that with what it found, at its end.
+NOTED = re.compile(f"{REPEATS}[0-9]{{1,20}} commits are noted, up to ({LSN})(?:, .+)?")
+COUNTED = re.compile(
+    f"{REPEATS}[0-9]{{1,20}} equal, [0-9]{{1,20}} unknown, [0-9]{{1,20}} forgotten"
+)
+# Those of them that tell nothing.
 NOTHING = re.compile(
-    f"[0-9]{{1,20}} commits are noted, up to {LSN}|0 equal, 0 unknown, 0 forgotten"
+    f"{REPEATS}(?:[0-9]{{1,20}} commits are noted, up to {LSN}|0 equal, 0 unknown, 0 forgotten)"
 )
 # Why it can't begin.
-UNUSABLE = re.compile("can't use .+: .+")
-UNREAD = "what the filter said of it can't be read: "
+UNUSABLE = re.compile(f"{REPEATS}can't use .+: .+")
 
 
 class Told(NamedTuple):
@@ -47,52 +61,30 @@ class Told(NamedTuple):
 
 
 def told_of(line: str) -> Told | None:
-    """What a line on standard error says of the server, None where it says something else. One that
-    can't be read may tell of anything."""
-    if line.startswith(REPEATS):
-        return told_of_repeats(line.removeprefix(REPEATS))
-    if not line.startswith(WATCH):
+    """What a line on standard error says of the server, or of commits that came again; None where
+    it says something else, counts commits or can't note them. One that can't be read may tell of
+    anything."""
+    head = next((it for it in FORMS if line.startswith(it)), None)
+    if head is None or any(it.fullmatch(line) for it in (NOTED, COUNTED, UNUSABLE)):
         return None
-    said = line.removeprefix(WATCH)
-    if broken := BROKEN.fullmatch(said):
-        rule, place, what = broken.groups()
-        return Told(RULE, f"{rule} broken by the frame at byte {place} of a session: {what}")
-    if left := LEFT.fullmatch(said):
-        return Told(UNWATCHED, f"a session from its frame at byte {left[1]} on: {left[2]}")
-    return Told(UNWATCHED, UNREAD + said)
-
-
-def told_of_repeats(said: str) -> Told | None:
-    """What a line says of commits that came again, None where it counts or can't note them."""
-    if NOTED.fullmatch(said) or COUNTED.fullmatch(said) or UNUSABLE.fullmatch(said):
-        return None
-    if CONTRADICTED.fullmatch(said):
-        return Told(REPEAT, said)
-    if left := UNCOMPARED.fullmatch(said):
-        place, why = left.groups()
-        return Told(UNWATCHED, f"commits that came again from the frame at byte {place} on: {why}")
-    if UNKEPT.fullmatch(said):
-        return Told(UNWATCHED, f"commits that come again after the filter's end: {said}")
+    said = line.removeprefix(head)
+    for form, kind, text in FORMS[head]:
+        if found := form.fullmatch(said):
+            return Told(kind, text.format(*found.groups()))
     return Told(UNWATCHED, UNREAD + said)
 
 
 def counted_in(line: str) -> int | None:
     """Where the last of the commits ends that a filter has noted before, 0 where a line counts those
     that came again; None where it is another one."""
-    said = line.removeprefix(REPEATS) if line.startswith(REPEATS) else ""
-    if found := NOTED.fullmatch(said):
+    if found := NOTED.fullmatch(line):
         return parse_lsn(found[1])
-    return 0 if COUNTED.fullmatch(said) else None
-
-
-def tells_nothing(line: str) -> bool:
-    """Whether it counts what is as it should be, where nothing came again."""
-    return line.startswith(REPEATS) and bool(NOTHING.fullmatch(line.removeprefix(REPEATS)))
+    return 0 if COUNTED.fullmatch(line) else None
 
 
 def is_unusable(line: str) -> bool:
     """Whether it says that the file can't be used in which commits are noted."""
-    return line.startswith(REPEATS) and bool(UNUSABLE.fullmatch(line.removeprefix(REPEATS)))
+    return bool(UNUSABLE.fullmatch(line))
 
 
 class FilterSaid:
@@ -137,7 +129,7 @@ class FilterSaid:
         if missing := missing_of(line):
             self.missing = missing
             return
-        if not tells_nothing(line):
+        if not NOTHING.fullmatch(line):
             log.info(f"filter: {line}")
         if told := told_of(line):
             self.news.append(told)
