@@ -23,15 +23,21 @@ Numbers = Sequence[int]
 Served = tuple[list[int], list[int], list[bytes]]
 
 
+def groups() -> list[Path]:
+    """The folder of the control group that this process is in, and those above it."""
+    with contextlib.suppress(OSError, ValueError):
+        group = GROUPS / GROUP.read_text(encoding="utf-8").rpartition("0::")[2].strip().lstrip("/")
+        return [group, *group.parents]
+    return []
+
+
 def processors() -> float:
     """How many processors this process may use at once, by its control groups."""
     least = float(len(os.sched_getaffinity(0)))
-    with contextlib.suppress(OSError):
-        group = GROUPS / GROUP.read_text(encoding="utf-8").rpartition("0::")[2].strip().lstrip("/")
-        for folder in (group, *group.parents):
-            with contextlib.suppress(OSError, ValueError):
-                quota, period = map(int, (folder / "cpu.max").read_text(encoding="ascii").split())
-                least = min(least, quota / period)
+    for folder in groups():
+        with contextlib.suppress(OSError, ValueError):
+            quota, period = map(int, (folder / "cpu.max").read_text(encoding="ascii").split())
+            least = min(least, quota / period)
     return least
 
 

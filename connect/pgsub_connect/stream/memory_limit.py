@@ -4,6 +4,7 @@ import contextlib
 import dataclasses
 import os
 
+from .awake import GROUPS, groups
 from .filter_end import FRAME_TOO_LARGE, MEMORY, REJECTED, SPOOL_FULL, FilterEnded
 
 # The longest frame that PostgreSQL can send, with its length.
@@ -27,30 +28,12 @@ def memory() -> int | None:
     found = []
     with contextlib.suppress(ValueError, OSError):
         found.append(os.sysconf("SC_PAGE_SIZE") * os.sysconf("SC_PHYS_PAGES"))
-    found += [limit for path in group_files() if (limit := read_limit(path)) is not None]
+    limits = [it / "memory.max" for it in groups()]
+    for path in (GROUPS / "memory/memory.limit_in_bytes", *limits):
+        # (of both versions; a group without a limit says `max`)
+        with contextlib.suppress(OSError, ValueError):
+            found.append(int(path.read_text(encoding="ascii")))
     return min(found, default=None)
-
-
-def group_files() -> list[str]:
-    """The files with the limits of the control groups that this process is in, of both versions."""
-    paths = ["/sys/fs/cgroup/memory/memory.limit_in_bytes"]
-    with contextlib.suppress(OSError, ValueError), open(
-        "/proc/self/cgroup", encoding="utf-8"
-    ) as file:
-        for line in file:
-            number, controllers, path = line.rstrip("\n").split(":", 2)
-            if number != "0" or controllers:
-                continue
-            while path:
-                paths.append(f"/sys/fs/cgroup{path.rstrip('/')}/memory.max")
-                path = path.rpartition("/")[0]
-    return paths
-
-
-def read_limit(path: str) -> int | None:
-    with contextlib.suppress(OSError, ValueError), open(path, encoding="ascii") as file:
-        return int(file.read())
-    return None
 
 
 def default_buffered() -> int:
