@@ -7,17 +7,18 @@ import select
 import stat
 import struct
 import time
-from collections.abc import Sequence
+from collections.abc import Callable, Sequence
+from functools import partial
 
 from pgsub_feed import log
 from pgsub_feed.errors import FileError, UsageError
 from pgsub_feed.interruption import undone_by
 from pgsub_feed.program import Worker
-from pgsub_feed.texts import counted, identifier, lsn_text, replication_literal
+from pgsub_feed.texts import counted, identifier, lsn_text
 
 from .server import session
 from .server.connection import COPY_BOTH, Connection
-from .stream.messages import COPY_DONE, header
+from .stream.messages import COPY_DONE, HEADERS, clock
 
 LONGEST = 64 << 20
 # How each recording of this program begins.
@@ -62,7 +63,7 @@ class Recording:
             self.written += len(line) + 1
 
     def write_payload(self, payload: bytes) -> None:
-        self.write_line(header(payload).hex() + payload.hex())
+        self.write_line(HEADERS[len(payload)].hex() + payload.hex())
 
     def begin_session(self, session: Session) -> None:
         if self.written:
@@ -97,32 +98,24 @@ def opened(path: str, append: bool, mode: int, overwrites: bool) -> int:
     return file
 
 
-class Aside:
+class Aside(Recording):
     """A recording beside a follower: where it can't be written, it alone ends."""
 
-    def __init__(self, recording: Recording) -> None:
-        self.recording: Recording | None = recording
+    has_failed = False
 
-    def attempt(self, call: str, *words: object) -> None:
-        if not self.recording:
-            return
-        try:
-            getattr(self.recording, call)(*words)
-        except OSError as error:
-            log.warning(f"{self.recording.path}: {error.strerror}: the recording ends here")
-            self.recording = None
-
-    def write_payload(self, payload: bytes) -> None:
-        self.attempt("write_payload", payload)
-
-    def begin_session(self, session: Session) -> None:
-        self.attempt("begin_session", session)
+    def write_line(self, line: str) -> None:
+        self.attempt(partial(super().write_line, line))
 
     def flush(self) -> None:
-        self.attempt("flush")
+        self.attempt(super().flush)
 
-
-EPOCH = 946684800
+    def attempt(self, write: Callable[[], None]) -> None:
+        if not self.has_failed:
+            try:
+                write()
+            except OSError as error:
+                log.warning(f"{self.path}: {error.strerror}: the recording ends here")
+                self.has_failed = True
 
 
 @dataclasses.dataclass(frozen=True)
@@ -223,7 +216,9 @@ class Recorder(Worker):
                 log.info("recording from now on: make changes now")
             if settings.until == "now":
                 self.until = session.log_end(connection)
-            connection.run(self.command(), wanted=COPY_BOTH)
+            options = [f"{it} 'true'" for it in settings.asks_for]
+            command = self.subscription.start_command(settings.start, self.proto, options)
+            connection.run(command, wanted=COPY_BOTH)
             version, it = connection.parameter("server_version"), self.subscription
             asked = self.proto, settings.asks_for, settings.start
             self.recording.begin_session(Session(version, it.slot, it.publications, *asked))
@@ -237,19 +232,11 @@ class Recorder(Worker):
             said = f"{counted(done.payloads, 'frame')}, {counted(done.commits, 'commit')}"
             log.info(f"{said}, the last up to {lsn_text(done.commit_end)}")
 
-    def command(self) -> str:
-        slot, start = identifier(self.subscription.slot), lsn_text(self.settings.start)
-        names = ", ".join(identifier(name) for name in self.subscription.publications)
-        words = [f"proto_version '{self.proto}'", f"publication_names {replication_literal(names)}"]
-        words += [f"{it} 'true'" for it in self.settings.asks_for]
-        return f"START_REPLICATION SLOT {slot} LOGICAL {start} ({', '.join(words)})"
-
     def send_status(self, connection: Connection) -> None:
         """Tells the server that it is heard. Only what is flushed lets it forget its log."""
         confirmed = min(self.settings.confirm, self.progress.commit_end)
-        clock = int((time.time() - EPOCH) * 1000000)
         received = max(self.progress.server_end, confirmed)
-        connection.send(struct.pack(">cQQQqB", b"r", received, confirmed, confirmed, clock, 0))
+        connection.send(struct.pack(">cQQQqB", b"r", received, confirmed, confirmed, clock(), 0))
         self.last_status = time.monotonic()
         self.progress.note_status()
 

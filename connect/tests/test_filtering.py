@@ -23,7 +23,6 @@ from pgsub_connect.stream.messages import (
     STATUS_HEAD,
     asking,
     flushed,
-    header,
     without_received,
 )
 from pgsub_connect.stream.room import is_full, rooms
@@ -37,7 +36,7 @@ FAKE = os.path.join(os.path.dirname(os.path.abspath(__file__)), "fake_filter.py"
 
 
 def framed(*payloads: bytes) -> bytes:
-    return b"".join(header(it) + it for it in payloads)
+    return b"".join(HEADERS[len(it)] + it for it in payloads)
 
 
 class Case(Quiet):

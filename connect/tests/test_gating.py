@@ -23,7 +23,7 @@ from pgsub_connect.verify import store as verify_store
 from pgsub_connect.verify.comparison import Compared
 from pgsub_connect.verify.store import Request
 from pgsub_feed.errors import Passing, Stopped
-from pgsub_feed.interruption import never
+from pgsub_feed.interruption import Check, never
 from pgsub_feed.texts import lsn_text
 
 from .adding_case import OTHER, Case as AddingCase, Run, T
@@ -159,24 +159,24 @@ class Looks(Quiet):
 
 class Made(unittest.TestCase):
     def test_a_slot(self) -> None:
-        making = Making(mock.Mock(make_slot=lambda seconds, check: (0x200, f"{seconds}")), 1.0)
+        making = Making(lambda _: (0x200, "snapshot"))
         making.start()
         making.join(10)
-        self.assertEqual(making.result(), (0x200, "1.0"))
+        self.assertEqual(making.result(), (0x200, "snapshot"))
 
     def test_an_error(self) -> None:
-        making = Making(mock.Mock(make_slot=mock.Mock(side_effect=ServerError("no", "53400"))), 1.0)
+        making = Making(mock.Mock(side_effect=ServerError("no", "53400")))
         making.start()
         making.join(10)
         self.assertRaises(ServerError, making.result)
 
     def test_it_is_given_up(self) -> None:
-        def make_slot(seconds: float, check: object) -> None:
+        def make_slot(check: Check) -> tuple[int, str]:
             while True:
-                check()  # type: ignore[operator]
+                check()
                 time.sleep(0.001)
 
-        making = Making(mock.Mock(make_slot=make_slot), 1.0)
+        making = Making(make_slot)
         making.start()
         making.give_up()
         self.assertFalse(making.is_alive())

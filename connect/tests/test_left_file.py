@@ -189,8 +189,7 @@ class AFilter(Case):
 
     def filter(self) -> Filter:
         words = ["/usr/bin/python3", "-S", "-E", FAKE, "follow", "--store", self.store]
-        it = Filter(words, ())
-        it.note_left(self.left())
+        it = Filter(words, (), left=self.left())
         self.addCleanup(it.kill)
         return it
 

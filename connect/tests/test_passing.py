@@ -14,7 +14,8 @@ from pgsub_connect.drift.remembered import Remembered
 from pgsub_connect.errors import ServerError
 from pgsub_connect.follow.follower import Follower
 from pgsub_connect.follow.settings import StreamForm
-from pgsub_connect.record import Aside, Recording
+from pgsub_connect.record import Aside
+from pgsub_connect.server.session import Subscription
 from pgsub_connect.status.progress import Progress
 from pgsub_connect.store.checkpoint import Checkpoint
 from pgsub_connect.stream.filter import Filter
@@ -54,6 +55,11 @@ def framed(*payloads: bytes) -> bytes:
     return b"".join(b"d" + (len(it) + 4).to_bytes(4, "big") + it for it in payloads)
 
 
+def command_of(form: StreamForm) -> str:
+    """What asks for a session of this form."""
+    return Subscription(publications=["pgsub"]).start_command(0, form.proto, form.options())
+
+
 class Case(unittest.TestCase):
     def setUp(self) -> None:
         folder = tempfile.TemporaryDirectory()
@@ -68,11 +74,11 @@ class Case(unittest.TestCase):
             0,
             0,
         )
-        self.recording = Recording(folder.name + "/r.pgx", False, 1 << 30)
+        self.recording = Aside(folder.name + "/r.pgx", False, 1 << 30)
         self.addCleanup(self.recording.out.close)
         told = followed((Checkpoint(self.store), Progress(), remembered), self.store, skip=0x210)
         asked = snapshots_of(self, self.store)
-        self.follower = Follower(*told, self.child, Aside(self.recording), asked)
+        self.follower = Follower(*told, self.child, self.recording, asked)
 
     def take(self, source: Source) -> bool | None:
         """Takes as much as there is room for, as a session does."""
@@ -140,7 +146,7 @@ class Passes(Case):
         follower.life.form.proto, follower.life.form.streams = 1, False
         self.assertIn(
             "proto_version '1', publication_names",
-            follower.life.form.command("pgsub", ["pgsub"], 0),
+            command_of(follower.life.form),
         )
         connection = mock.Mock()
         connection.parameter.return_value = "13.9"
@@ -154,7 +160,7 @@ class Passes(Case):
         commit that is skipped."""
         form = self.follower.life.form = StreamForm(2, self.follower.life.form.skipping, True)
         self.assertEqual((form.choose(150018), form.asks_for()), (2, ["messages"]))
-        command = form.command("pgsub", ["pgsub"], 0)
+        command = command_of(form)
         self.assertIn("proto_version '2'", command)
         self.assertIn("messages 'true'", command)
         self.assertNotIn("streaming", command)
@@ -177,9 +183,9 @@ class Passes(Case):
     def test_whole_transactions_while_it_is_to_come(self) -> None:
         with logged():
             self.follower.life.form.skipping.begin_session(0x211)
-        self.assertIn("streaming 'on'", self.follower.life.form.command("pgsub", ["pgsub"], 0))
+        self.assertIn("streaming 'on'", command_of(self.follower.life.form))
         self.follower.life.form.skipping.begin_session(0x210)
-        self.assertNotIn("streaming", self.follower.life.form.command("pgsub", ["pgsub"], 0))
+        self.assertNotIn("streaming", command_of(self.follower.life.form))
 
     def test_up_to_an_lsn(self) -> None:
         """What comes behind it waits until the copy is taken, in the recording too."""

@@ -2,6 +2,7 @@
 
 import time
 from collections.abc import Callable, Iterable
+from functools import partial
 
 from pgsub_feed.errors import Passing
 from pgsub_feed.log import Meter
@@ -14,6 +15,7 @@ from ..server.publications import estimated_rows, sizes_of
 from ..status.progress import Progress
 from ..stream.gate import MOST as LONGEST_WAIT, WAITED, Making
 from ..stream.memory_limit import BufferLimits
+from ..stream.messages import clock
 from ..stream.stream_log import Noting
 from .replacement import Rows, payload_of
 from .requests import Stream, TooLarge, too_large, too_long
@@ -21,7 +23,6 @@ from .requests import Stream, TooLarge, too_large, too_long
 # How long the stream is held at most until the slot is made, and for a lock of somebody else on the
 # table, in seconds; and the latter where commits wait.
 SLOT, LOCK, SHORT_LOCK = 10.0, 5.0, 0.5
-EPOCH = 946684800
 # What is told how far it is.
 Tell = Callable[[str], None]
 
@@ -74,7 +75,7 @@ class Turn:
     def begin_making(self) -> None:
         """Makes the slot while the stream goes on."""
         assert self.source
-        self.making = Making(self.source, SLOT)
+        self.making = Making(partial(self.source.make_slot, SLOT))
         self.making.start()
 
     def is_made(self) -> bool:
@@ -107,7 +108,7 @@ class Turn:
     def rows(self) -> Rows:
         """The transaction that has them."""
         assert self.table
-        return Rows(self.table, self.point, round((time.time() - EPOCH) * 1000000))
+        return Rows(self.table, self.point, clock())
 
     def blocks(self) -> Iterable[list[bytes]]:
         """The rows themselves."""

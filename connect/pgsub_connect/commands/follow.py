@@ -24,7 +24,7 @@ from ..follow.retention import remove_feed
 from ..follow.server_watch import Asker
 from ..follow.settings import FollowSettings
 from ..follow.snapshots import Snapshots
-from ..record import Aside, Recording
+from ..record import Aside
 from ..server import transport
 from ..server.preflight import require_published
 from ..server.publication_setup import Maker
@@ -271,8 +271,8 @@ def made(options: Options, checkpoint: Checkpoint) -> Parts:
     begin_watching(options, common, child)
     told = subscription, checkpoint, child, progress, remembered
     copier = Copier(options.copy_settings(), *told, feeding.rows_beside())
-    recorded = options.record and Recording(options.record, True, options.bytes, mode)
-    recording, requests = Aside(recorded) if recorded else None, RequestSocket(store, mode)
+    recording = Aside(options.record, True, options.bytes, mode) if options.record else None
+    requests = RequestSocket(store, mode)
     snapshots = Snapshots(store, requests, options.snapshot, options.snapshot_every, mode)
     settings, report = options.follow_settings(), options.report_settings()
     follower = Follower(settings, common, child, recording, snapshots, feeding)
@@ -284,9 +284,8 @@ def make_filter(options: Options, checkpoint: Checkpoint) -> Filter:
     words = [options.pgsub, "follow", "--store", meant(options.store)]
     words += ["--max-buffered", str(options.max_buffered), "--max-frame", str(options.max_frame)]
     words += ["--cache", str(options.cache)] if options.cache else []
-    child = Filter(words, (checkpoint.file,), options.proto, options.mode)
-    child.note_left(LeftFile(options.store, options.check_every))
-    return child
+    left = LeftFile(options.store, options.check_every)
+    return Filter(words, (checkpoint.file,), options.proto, options.mode, left)
 
 
 def begin_watching(options: Options, common: Common, child: Filter) -> None:

@@ -28,7 +28,6 @@ with the repair.
 import contextlib
 import os
 import stat
-import time
 from collections.abc import Iterator
 
 from pgsub_feed import log
@@ -41,7 +40,7 @@ from ..copy.messages import begin, commit, frame
 from ..errors import ServerError
 from ..stream.hold import CHANGES
 from ..stream.memory_limit import BufferLimits
-from ..stream.messages import EPOCH, relation_of
+from ..stream.messages import clock, relation_of
 from ..stream.statuses import Confirming
 from .drift_watch import Watch
 from .settings import StreamForm
@@ -158,18 +157,18 @@ class Repairing:
         except Unusable as error:
             self.give_up(str(error), True)
             return
-        lsn, clock = self.hold.point - 1, round((time.time() - EPOCH) * 1000000)
+        lsn, now = self.hold.point - 1, clock()
         self.hold.note_sent()
         # (a session that begins below P might describe the tables otherwise)
         self.checkpoint.forget_repeats()
         try:
-            self.push([frame(lsn, begin(lsn, XID, clock)), *(frame(lsn, it) for it in first)])
+            self.push([frame(lsn, begin(lsn, XID, now)), *(frame(lsn, it) for it in first)])
             for lot in lots:
                 self.push([frame(lsn, it) for it in self.checked(lot)])
         except Unusable as error:
             self.give_up(str(error), True)
             raise ServerError("the session ends, since rows can't be repaired") from None
-        self.push([frame(lsn, commit(lsn, self.hold.point, clock))])
+        self.push([frame(lsn, commit(lsn, self.hold.point, now))])
 
     def checked(self, lot: list[bytes]) -> list[bytes]:
         """Messages that the filter takes. Their definitions are known then."""

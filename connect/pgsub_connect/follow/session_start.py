@@ -154,8 +154,8 @@ class SessionStart:
 
     def start_replication(self, connection: Connection, server: Server, at: int) -> None:
         """Asks for the changes from an LSN on, which a standby without slots of its own rejects."""
-        slot, store = self.subscription.slot, self.settings.store
-        command = self.form.command(slot, self.subscription.publications, at)
+        slot, store, form = self.subscription.slot, self.settings.store, self.form
+        command = self.subscription.start_command(at, form.proto, form.options())
         try:
             connection.run(command, wanted=COPY_BOTH, limit=self.settings.silence)
         except ServerError as error:

@@ -1,11 +1,9 @@
 """How a follower follows, whether it is to end, and the stream's form that it asks for."""
 
 import dataclasses
-from collections.abc import Sequence
 
 from pgsub_feed import log
 from pgsub_feed.program import Worker
-from pgsub_feed.texts import identifier, lsn_text, replication_literal
 
 from ..preconditions import require_messages
 from ..server.session import ABORTS_IN_VERSION_1, STREAMS, tell_version_1
@@ -100,13 +98,6 @@ class StreamForm:
         """What it asks for besides, as a recording has it."""
         return ["streaming"] * self.is_streaming() + ["messages"] * self.messages
 
-    def command(self, slot: str, publications: Sequence[str], at: int) -> str:
-        names = ", ".join(identifier(name) for name in publications)
-        words = [f"proto_version '{self.proto}'", f"publication_names {replication_literal(names)}"]
-        if self.is_streaming():
-            words.append("streaming 'on'")
-        if self.messages:
-            words.append("messages 'true'")
-        return (
-            f"START_REPLICATION SLOT {identifier(slot)} LOGICAL {lsn_text(at)} ({', '.join(words)})"
-        )
+    def options(self) -> list[str]:
+        """The same, as options of the protocol."""
+        return ["streaming 'on'"] * self.is_streaming() + ["messages 'true'"] * self.messages

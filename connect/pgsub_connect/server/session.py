@@ -8,7 +8,8 @@ from collections.abc import Iterable, Iterator
 from pgsub_feed import log
 from pgsub_feed.errors import Unfit
 from pgsub_feed.interruption import Check
-from pgsub_feed.texts import PRINTING, literal, parse_lsn
+from pgsub_feed.texts import PRINTING, identifier, literal, lsn_text, parse_lsn
+from pgsub_feed.texts import replication_literal
 
 from ..errors import IN_USE, ServerError, understood
 from .connection import QUICK, Connection
@@ -46,6 +47,13 @@ class Subscription:
         with contextlib.closing(connection):
             settle(connection)
             yield connection
+
+    def start_command(self, at: int, proto: int, more: Iterable[str]) -> str:
+        """What begins to replicate from an LSN on. `more`: what is asked for besides."""
+        names = ", ".join(map(identifier, self.publications))
+        words = [f"proto_version '{proto}'", f"publication_names {replication_literal(names)}"]
+        how = f"{lsn_text(at)} ({', '.join([*words, *more])})"
+        return f"START_REPLICATION SLOT {identifier(self.slot)} LOGICAL {how}"
 
 
 LIMITS = "statement_timeout", "lock_timeout", "idle_in_transaction_session_timeout"

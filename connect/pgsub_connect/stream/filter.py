@@ -40,7 +40,12 @@ class Filter:
     child: subprocess.Popen[bytes]
 
     def __init__(
-        self, words: list[str], kept_open: Sequence[int], proto: int = 2, mode: int = 0o600
+        self,
+        words: list[str],
+        kept_open: Sequence[int],
+        proto: int = 2,
+        mode: int = 0o600,
+        left: LeftFile | None = None,
     ) -> None:
         self.words, self.proto, self.kept_open, self.mode = words, proto, kept_open, mode
         self.runs = self.in_session = False
@@ -49,8 +54,7 @@ class Filter:
         self.repeats: RepeatsFile | None = None
         self.compares = False
         # by which one trusts what the one before it left; and whether the one that runs does
-        self.left: LeftFile | None = None
-        self.trusts = False
+        self.left, self.trusts = left, False
         # the last status, and the beginning of the next one
         self.status = self.partial = b""
         # whether the last one that had opened its store has said it of all that it stored
@@ -77,10 +81,6 @@ class Filter:
     def note_repeats(self, file: RepeatsFile | None) -> None:
         """The next one compares commits that come again with what this file has of them."""
         self.repeats = file
-
-    def note_left(self, file: LeftFile) -> None:
-        """The next ones trust the store where that is as the one before left it."""
-        self.left = file
 
     @contextlib.contextmanager
     def noting_none(self) -> Iterator[None]:

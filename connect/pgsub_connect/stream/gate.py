@@ -28,7 +28,6 @@ import tempfile
 import threading
 import time
 from collections.abc import Callable
-from typing import Protocol
 
 from pgsub_feed.errors import Passing, Stopped, Unfit
 from pgsub_feed.interruption import Check
@@ -129,26 +128,20 @@ class Gating:
         self.connection, self.end, self.next = None, 0, 0.0
 
 
-class SlotMaker(Protocol):
-    """A server that makes a slot, and may take long for it."""
-
-    def make_slot(self, seconds: float, check_end: Check | None = None) -> tuple[int, str]:
-        """The slot's consistent point and its snapshot."""
-
-
 class Making(threading.Thread):
-    """Makes a slot while the follower goes on."""
+    """Makes a slot while the follower goes on, by a call that gives its consistent point and its
+    snapshot."""
 
-    def __init__(self, source: SlotMaker, seconds: float) -> None:
+    def __init__(self, make: Callable[[Check], tuple[int, str]]) -> None:
         super().__init__(daemon=True)
-        self.source, self.seconds = source, seconds
+        self.make = make
         self.given_up = threading.Event()
         self.made: tuple[int, str] | None = None
         self.error: Exception | None = None
 
     def run(self) -> None:
         try:
-            self.made = self.source.make_slot(self.seconds, self.check)
+            self.made = self.make(self.check)
         except (ServerError, Passing, Unfit, NoSlot, Stopped) as error:
             self.error = error
 

@@ -6,6 +6,7 @@ made a change or sent a Relation follows it.
 """
 
 import struct
+import time
 
 from pgsub_feed.relation import Column, Relation, Shape
 
@@ -20,6 +21,11 @@ OUTSIDE, INSIDE = 30, 34
 HEAD, AT = 55, 17
 # 2000-01-01, from which the server counts, in seconds since 1970.
 EPOCH = 946684800
+
+
+def clock() -> int:
+    """The time as the server counts it, in microseconds since 2000."""
+    return round((time.time() - EPOCH) * 1000000)
 
 
 def number(text: bytes) -> int:
@@ -94,7 +100,3 @@ def asking(payload: bytes) -> bytes:
 
 # The five bytes before the payload of a CopyData, by the payload's length.
 HEADERS = Heads(lambda length: struct.pack(">ci", b"d", length + 4))
-
-
-def header(payload: bytes) -> bytes:
-    return HEADERS[len(payload)]
