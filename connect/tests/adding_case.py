@@ -22,6 +22,7 @@ from pgsub_connect.follow.follower import Follower
 from pgsub_connect.follow.request_socket import RequestSocket
 from pgsub_connect.follow.snapshots import Snapshots
 from pgsub_connect.server import libpq
+from pgsub_connect.server.session import Subscription
 from pgsub_connect.status.progress import Progress
 from pgsub_connect.store.checkpoint import Checkpoint, read_known
 from pgsub_connect.store.repeats_file import RepeatsFile
@@ -92,7 +93,8 @@ class Run:
         sizes: dict[str, Any] = {"max_buffered": 1 << 26, "max_frame": 1 << 24, **options}
         most = sizes["max_buffered"]
         self.filter = Filter([*words, "--max-buffered", str(most)], (self.checkpoint.file,))
-        self.filter.note_repeats(RepeatsFile(case.store, self.checkpoint, lambda: ["pgsub"]))
+        subscription = Subscription(publications=["pgsub"])
+        self.filter.note_repeats(RepeatsFile(case.store, self.checkpoint, subscription))
         self.progress, self.remembered = Progress(), Remembered(case.store)
         if self.remembered.catalog is None:
             self.remembered.begin_copy(

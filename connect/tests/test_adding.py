@@ -123,7 +123,9 @@ class Added(Case):
         self.followed()
         remembered = Remembered(self.store)
         remembered.left.add(OTHER)
-        remembered.find("publication", 1, "its rows stay", About((OTHER,), gone="public.other"))
+        remembered.found.find(
+            "publication", 1, "its rows stay", About((OTHER,), gone="public.other")
+        )
         remembered.save()
         del self.world.tables[OTHER]
         run = Run(self)

@@ -191,8 +191,7 @@ class Files(TypesCase):
 
     def test_a_full_disk_is_told_once_and_tried_again(self) -> None:
         self.remembered.begin(a_catalog(of_catalog()))
-        about = Limits(), 0o600, Progress(), lambda: Reached(0, 0), self.file
-        keeper = Keeper(str(self.path), *about)
+        keeper = Keeper(Limits(), Progress(), lambda: Reached(0, 0), self.file)
         with logged() as lines:
             with mock.patch("pgsub_feed.files.os.replace", side_effect=OSError(28, "full")):
                 keeper.tend(0.0)

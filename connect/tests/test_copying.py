@@ -40,6 +40,7 @@ from pgsub_connect.status.progress import Progress
 from pgsub_connect.store import checkpoint_lines
 from pgsub_connect.store.checkpoint import Checkpoint
 from pgsub_connect.store.checkpoint_lines import COPIED, SLOT
+from pgsub_connect.stream.common import Common, Tolerance
 from pgsub_connect.stream.filter import Filter
 from pgsub_connect.stream.filter_end import FilterEnded
 from pgsub_connect.stream.memory_limit import BufferLimits
@@ -215,17 +216,11 @@ class Copying(Quiet):
         self.filter = FakeFilter(meant(self.store))
         self.progress = Progress()
         self.remembered = Remembered(self.store)
-        return Copier(
-            CopySettings(
-                self.store, Wanted(["pgsub"]), BufferLimits(max_buffered, 1 << 24), **settings
-            ),
-            Subscription(publications=["pgsub"]),
-            self.checkpoint,
-            cast(Filter, self.filter),
-            self.progress,
-            self.remembered,
-            self.beside,
-        )
+        limits = BufferLimits(max_buffered, 1 << 24)
+        copied = CopySettings(self.store, Wanted(["pgsub"]), limits, **settings)
+        told = self.checkpoint, self.progress, self.remembered
+        common = Common(Subscription(publications=["pgsub"]), Tolerance(), *told)
+        return Copier(copied, common, cast(Filter, self.filter), self.beside)
 
 
 class Locks(Copying):

@@ -544,7 +544,7 @@ class Kept(FeedCase):
     def keeper(self, confirmed: int = 0x600, **settings: Any) -> Keeper:
         limits, reached = Limits(**settings), Reached(confirmed, 0x600)
         types = TypesFile(str(self.path), 0o600, Remembered(str(self.folder / "copy.db")))
-        return Keeper(str(self.path), limits, 0o600, self.progress, lambda: reached, types)
+        return Keeper(limits, self.progress, lambda: reached, types)
 
     def read(self, name: str, lsn: int) -> None:
         Noted(str(self.path), name, str(self.folder / "rows.db"), 0o600).note(lsn, is_last=True)

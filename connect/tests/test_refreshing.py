@@ -44,7 +44,7 @@ class Compared(unittest.TestCase):
         remembered = Remembered("/nonexistent/s")
         remembered.begin_copy(before, 100)
         for kind, text, about in found:
-            remembered.find(kind, 50, text, about)
+            remembered.found.find(kind, 50, text, about)
         return [(it.what, it.oid, len(it.why)) for it in compared(remembered, now)]
 
     def test_all(self) -> None:
@@ -272,7 +272,7 @@ class Mended(Case):
             ("publication", About(publication="pgsub")),
             ("values", About(type_oid=25)),
         ):
-            remembered.find(kind, 50, f"it is of several {kind}", about)
+            remembered.found.find(kind, 50, f"it is of several {kind}", about)
         for oid, left, kinds in ((1, [2], []), (2, [], ["publication", "values"])):
             self.assertEqual(remembered.added(oid, remembered.found_of(oid)), kinds)
             self.assertEqual([it.oid for it in compared(remembered, now)], left)
@@ -283,9 +283,9 @@ class Mended(Case):
         remembered = self.remembered
         remembered.begin_copy(a_catalog(ONE, TWO), 100)
         text, about = "it was dropped and made anew", About(publication="pgsub")
-        remembered.find("publication", 50, text, about)
+        remembered.found.find("publication", 50, text, about)
         remembered.added(1, remembered.found_of(1))
-        remembered.find("publication", 60, text, about)
+        remembered.found.find("publication", 60, text, about)
         self.assertEqual(remembered.added(2, remembered.found_of(2)), [])
         self.assertEqual([it.oid for it in compared(remembered, a_catalog(ONE, TWO))], [1])
 

@@ -156,7 +156,7 @@ class InTheWay(Case):
         """What is found of a table that is being added ends nothing, unless that is refused."""
         text = "table public.t (16385) joined: the rows that it had before are missing"
         remembered = Remembered(self.store)
-        remembered.find("publication", 1, text, About((T,), is_missing=True))
+        remembered.found.find("publication", 1, text, About((T,), is_missing=True))
         remembered.save()
         self.want(T)
         run = self.goes_on(strict=True)

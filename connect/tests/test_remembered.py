@@ -380,7 +380,7 @@ class Looks(Case):
             ("public.u (2) can't be read", About((1,))),
             ("type x (25): a became b", NOTHING),
         ):
-            self.remembered.find("publication", 150, text, it)
+            self.remembered.found.find("publication", 150, text, it)
         again = self.again()
         self.assertEqual(
             list(again.found["publication"].texts.values()), [about, About((1,)), NOTHING]

@@ -375,15 +375,15 @@ class Found(Repairs):
 
     def test_what_goes(self) -> None:
         remembered = Remembered(self.store)
-        remembered.find("values", 5, "t has old values", About((T,)))
-        remembered.find("values", 5, "other has old values", About((OTHER,)))
+        remembered.found.find("values", 5, "t has old values", About((T,)))
+        remembered.found.find("values", 5, "other has old values", About((OTHER,)))
         remembered.save()
         run = self.running()
         run.checkpoint.note_found("values", 5)
 
         def find(name: str) -> None:
             if name == "written":
-                run.remembered.find("values", 9, "t has old values behind", About((T,)))
+                run.remembered.found.find("values", 9, "t has old values behind", About((T,)))
 
         self.hook = find
         self.repair()
@@ -395,7 +395,7 @@ class Found(Repairs):
 
     def test_the_last_of_a_kind(self) -> None:
         remembered = Remembered(self.store)
-        remembered.find("values", 5, "t has old values", About((T,)))
+        remembered.found.find("values", 5, "t has old values", About((T,)))
         remembered.save()
         run = self.running()
         run.checkpoint.note_found("values", 5)
@@ -406,7 +406,7 @@ class Found(Repairs):
     def test_a_look_that_is_not_possible(self) -> None:
         self.patch(Watch, "look_again", lambda *_: False)
         remembered = Remembered(self.store)
-        remembered.find("values", 5, "t has old values", About((T,)))
+        remembered.found.find("values", 5, "t has old values", About((T,)))
         remembered.save()
         run = self.running()
         self.repair()
@@ -498,7 +498,8 @@ class Held(unittest.TestCase):
     def test_sessions(self) -> None:
         it, form, asked = mock.Mock(), mock.Mock(), mock.Mock()
         asked.hold = Hold()
-        repairing = Repairing(it, it, it, asked, it, form)
+        it.life.form = form
+        repairing = Repairing(asked, it)
         found = []
         for wants, streaming, streams, keeps in (
             (False, True, True, False),

@@ -15,6 +15,7 @@ from pgsub_connect.commands.drop import files_of
 from pgsub_connect.drift.findings import REPEAT, UNWATCHED
 from pgsub_connect.drift.remembered import Remembered
 from pgsub_connect.errors import NoSlot, ServerError
+from pgsub_connect.server.session import Subscription
 from pgsub_connect.store.checkpoint import Checkpoint, read_known
 from pgsub_connect.store.repeats_file import RepeatsFile
 from pgsub_connect.stream.filter import LOAD, Filter
@@ -35,8 +36,8 @@ class File(Quiet):
         self.store = self.make_folder() + "/copy.db"
         self.checkpoint = Checkpoint(self.store)
         self.addCleanup(os.close, self.checkpoint.file)
-        self.names = ["b", "a"]
-        self.file = RepeatsFile(self.store, self.checkpoint, lambda: self.names)
+        self.followed = Subscription(publications=["b", "a"])
+        self.file = RepeatsFile(self.store, self.checkpoint, self.followed)
 
     def is_kept(self) -> bool:
         """Whether the file is there where a filter begins."""
@@ -52,13 +53,13 @@ class File(Quiet):
         """In whatever order they are named."""
         self.file.begin_at(0x108)
         for names, since in ((["a", "b"], 0x108), (["a"], 0), (["a", "b", "c"], 0), (["ab"], 0)):
-            self.names = names
+            self.followed.note_publications(names)
             self.assertEqual((self.file.since(), self.is_kept()), (since, since > 0), names)
 
     def test_it_is_with_messages_or_without(self) -> None:
         """A commit that has nothing else comes with them alone."""
-        names, others = (lambda: self.names), (lambda: ["", "a", "b"])
-        with_messages = RepeatsFile(self.store, self.checkpoint, names, True)
+        others = Subscription(publications=["", "a", "b"])
+        with_messages = RepeatsFile(self.store, self.checkpoint, self.followed, True)
         for one, other in ((self.file, with_messages), (with_messages, self.file)):
             one.begin_at(0x108)
             self.assertEqual((one.since(), other.since()), (0x108, 0))

@@ -358,7 +358,7 @@ class BulkLines(KeysCase):
     def known_up_to(self, lsn: int) -> None:
         """As the follower tells it."""
         types = TypesFile(str(self.path), 0o600, Remembered(self.store))
-        keeper = Keeper(str(self.path), Limits(), 0o600, Progress(), lambda: Reached(0, 0), types)
+        keeper = Keeper(Limits(), Progress(), lambda: Reached(0, 0), types)
         keeper.tell_keys(Reached(lsn, lsn, lsn, True))
 
     def check_another(self, was: tuple[str, ...], now: tuple[str, ...]) -> None:

@@ -269,8 +269,7 @@ def made(options: Options, checkpoint: Checkpoint) -> Parts:
     feeding.check()
     child = make_filter(options, checkpoint)
     begin_watching(options, common, child)
-    told = subscription, checkpoint, child, progress, remembered
-    copier = Copier(options.copy_settings(), *told, feeding.rows_beside())
+    copier = Copier(options.copy_settings(), common, child, feeding.rows_beside())
     recording = Aside(options.record, True, options.bytes, mode) if options.record else None
     requests = RequestSocket(store, mode)
     snapshots = Snapshots(store, requests, options.snapshot, options.snapshot_every, mode)
@@ -295,10 +294,8 @@ def begin_watching(options: Options, common: Common, child: Filter) -> None:
     if options.watch != session.ALL:
         # (commits come now that aren't noted)
         return common.checkpoint.forget_repeats()
-    subscription = common.subscription
-    asked = (lambda: subscription.publications), bool(options.messages)
-    file = RepeatsFile(options.store, common.checkpoint, *asked)
-    return child.note_repeats(file)
+    asked = common.subscription, bool(options.messages)
+    return child.note_repeats(RepeatsFile(options.store, common.checkpoint, *asked))
 
 
 def follow_with(options: Options, parts: Parts) -> None:

@@ -28,18 +28,15 @@ from pgsub_feed.log import Meter
 from pgsub_feed.program import Worker
 from pgsub_feed.texts import counted, lsn_text
 
-from ..drift.remembered import Remembered
 from ..errors import ServerError
 from ..preconditions import require, require_reading
 from ..server.connection import Connection
 from ..server.publication_setup import Maker, Wanted
 from ..server.publications import estimated_rows, stored_in
-from ..server.session import Server, Subscription, identify, settle, slot_position
+from ..server.session import Server, identify, settle, slot_position
 from ..server.waits import Waiting, lock_text
-from ..status.progress import Progress
-from ..store.checkpoint import Checkpoint
 from ..store.checkpoint_lines import COPIED, COPYING, SLOT
-from ..stream.common import note_server
+from ..stream.common import Common, note_server
 from ..stream.filter import Filter
 from ..stream.filter_end import FilterEnded
 from ..stream.memory_limit import BufferLimits, limit_text
@@ -75,19 +72,11 @@ class Copier(Worker):
     """Makes publication, store and slot."""
 
     def __init__(
-        self,
-        settings: CopySettings,
-        subscription: Subscription,
-        checkpoint: Checkpoint,
-        child: Filter,
-        progress: Progress,
-        remembered: Remembered,
-        beside: RowsBeside,
+        self, settings: CopySettings, common: Common, child: Filter, beside: RowsBeside
     ) -> None:
-        self.beside = beside
-        self.settings, self.subscription = settings, subscription
-        self.checkpoint, self.filter = checkpoint, child
-        self.progress, self.remembered = progress, remembered
+        self.settings, self.filter, self.beside = settings, child, beside
+        self.subscription, _, self.checkpoint, self.progress, self.remembered = common
+        subscription, remembered = self.subscription, self.remembered
         self.was_connected = False
         self.files = CopyFiles(settings.store, settings.mode)
         self.slot = CopySlot(subscription, self.check_stop)
@@ -224,7 +213,6 @@ class Copier(Worker):
     def clear(self) -> None:
         """Removes what an earlier run left."""
         self.progress.copy.begin()
-        self.tables.clear()
         self.files.clear(self.checkpoint.known.position)
         self.remembered.begin_anew()
 

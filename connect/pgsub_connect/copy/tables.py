@@ -27,9 +27,6 @@ class CopiedTables:
         self.later: dict[int, str] = {}
         self.sizes: dict[int, int] = {}
 
-    def clear(self) -> None:
-        self.later = {}
-
     def published(self, plain: Connection) -> list[Table]:
         return published_tables(plain, self.subscription.publications)
 
@@ -93,7 +90,7 @@ class CopiedTables:
         for oid, why in self.later.items():
             log.warning(f"{self.remembered.text_of(oid)}: {why}: it is added by itself")
             text = f"table {self.remembered.text_of(oid)} isn't copied yet: {why}"
-            self.remembered.find(PUBLICATION, point, text, About((oid,)))
+            self.remembered.found.find(PUBLICATION, point, text, About((oid,)))
         self.remembered.found.take_news()
         self.remembered.want_later(self.later)
 

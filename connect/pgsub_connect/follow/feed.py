@@ -194,8 +194,7 @@ class Feeding:
         self.remembered.note_feed(self.folder, messages=self.settings.messages)
         self.types.begin()
         child.add_words(self.words(check))
-        how = self.settings.limits, self.settings.mode, self.progress, reached
-        self.keeper = Keeper(self.folder, *how, self.types)
+        self.keeper = Keeper(self.settings.limits, self.progress, reached, self.types)
         if tables:
             self.beside = Beside(tables, self.progress, wake, self.first_rows.wait)
         self.sinks = [Sink(it, self.progress) for it in self.settings.sinks]

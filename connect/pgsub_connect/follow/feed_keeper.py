@@ -160,17 +160,12 @@ class Keeper(threading.Thread):
     """Writes what is confirmed, looks after the readers, and removes old segments."""
 
     def __init__(
-        self,
-        folder: str,
-        limits: Limits,
-        mode: int,
-        progress: Progress,
-        reached: Callable[[], Reached],
-        types: TypesFile,
+        self, limits: Limits, progress: Progress, reached: Callable[[], Reached], types: TypesFile
     ) -> None:
         super().__init__(daemon=True)
-        self.folder, self.limits, self.mode, self.types = folder, limits, mode, types
-        self.keys_file = os.path.join(folder, KEYS)
+        self.limits, self.types = limits, types
+        self.folder, self.mode = types.folder, types.mode
+        self.keys_file = os.path.join(self.folder, KEYS)
         self.progress, self.reached = progress, reached
         self.ended = threading.Event()
         # set where the store has more

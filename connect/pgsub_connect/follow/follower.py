@@ -61,7 +61,7 @@ class Follower:
         self.standing = Standing(child, progress)
         upkeep = Upkeep(self.life, schedule, self.standing)
         self.adder = Adder(common, store, limits, watch, confirming, snapshots.hold, upkeep)
-        repairing = Repairing(limits, watch, confirming, snapshots, upkeep, form)
+        repairing = Repairing(snapshots, upkeep)
         asked = form.is_streaming, confirming.reached, progress.server.note_standbys
         snapshots.note_follower(self.adder.take, *asked)
         self.requests = Requests(self.adder, repairing, upkeep)

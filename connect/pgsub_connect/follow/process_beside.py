@@ -19,11 +19,12 @@ import sys
 import threading
 import time
 import urllib.parse
-from collections.abc import Callable, Mapping, Sequence
+from collections.abc import Mapping, Sequence
 from typing import IO
 
 from pgsub_feed import log
 from pgsub_feed.errors import FileError
+from pgsub_feed.interruption import Check, never
 from pgsub_feed.reader.folder import READERS
 from pgsub_feed.sinks.connecting import ENVIRONMENT
 from pgsub_feed.sinks.following import WAITS
@@ -60,17 +61,11 @@ class ProcessBeside(threading.Thread):
     each has; `wake` has the main loop look what it has told."""
 
     child: subprocess.Popen[bytes] | None
+    environment: Mapping[str, str] = {}
 
-    def __init__(
-        self,
-        name: str,
-        head: str,
-        words: Sequence[str],
-        environment: Mapping[str, str] = {},
-        wake: Callable[[], None] = lambda: None,
-    ) -> None:
+    def __init__(self, name: str, head: str, words: Sequence[str], wake: Check = never) -> None:
         super().__init__(daemon=True, name=name)
-        self.head, self.environment, self.wake = head, environment, wake
+        self.head, self.wake = head, wake
         self.words = [sys.executable, "-c", CODE, *words, "--while-input"]
         self.child = None
         self.lock, self.ended = threading.Lock(), threading.Event()
@@ -257,13 +252,9 @@ class Beside(ProcessBeside):
     """That process."""
 
     def __init__(
-        self,
-        settings: TablesSettings,
-        progress: Progress,
-        wake: Callable[[], None] = lambda: None,
-        wait: Callable[[], None] = lambda: None,
+        self, settings: TablesSettings, progress: Progress, wake: Check = never, wait: Check = never
     ) -> None:
-        super().__init__(settings.path, "tables", settings.words(), wake=wake)
+        super().__init__(settings.path, "tables", settings.words(), wake)
         self.wait = wait
         self.path, self.progress = settings.path, progress
         self.progress.feed.note_tables(settings.path)
@@ -337,8 +328,8 @@ class Sink(ProcessBeside):
 
     def __init__(self, settings: SinkSettings, progress: Progress) -> None:
         where = settings.where()
-        super().__init__(where, f"sink {where}", settings.words(), {ENVIRONMENT: settings.url})
-        self.feed = progress.feed
+        super().__init__(where, f"sink {where}", settings.words())
+        self.environment, self.feed = {ENVIRONMENT: settings.url}, progress.feed
         self.note_started()
 
     def note_started(self) -> None:

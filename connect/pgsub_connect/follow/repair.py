@@ -35,16 +35,12 @@ from pgsub_feed.reader.commits import XID
 from pgsub_feed.texts import counted, lsn_text
 
 from ..add.replacement import payload_of
-from ..add.requests import Stream
 from ..copy.messages import begin, commit, frame
 from ..errors import ServerError
 from ..stream.hold import CHANGES
-from ..stream.memory_limit import BufferLimits
 from ..stream.messages import clock, relation_of
-from ..stream.statuses import Confirming
-from .drift_watch import Watch
-from .settings import StreamForm
 from .snapshots import Snapshots
+from .upkeep import Upkeep
 
 # How many bytes of the file are passed on at a time.
 BLOCK = 1 << 17
@@ -87,19 +83,13 @@ def messages_in(path: str, most: int) -> Iterator[list[bytes]]:
 class Repairing:
     """What becomes of a request to repair rows."""
 
-    def __init__(
-        self,
-        limits: BufferLimits,
-        watch: Watch,
-        confirming: Confirming,
-        snapshots: Snapshots,
-        stream: Stream,
-        form: StreamForm,
-    ) -> None:
-        self.limits, self.watch, self.confirming, self.form = limits, watch, confirming, form
-        self.snapshots, self.hold, self.stream = snapshots, snapshots.hold, stream
-        self.checkpoint, self.progress = watch.checkpoint, watch.progress
-        self.remembered, self.noting = watch.remembered, confirming.noting
+    def __init__(self, snapshots: Snapshots, upkeep: Upkeep) -> None:
+        self.snapshots, self.hold, self.upkeep = snapshots, snapshots.hold, upkeep
+        life = upkeep.life
+        self.limits, self.watch, self.form = life.limits, life.watch, life.form
+        self.confirming, self.noting = life.confirming, life.noting
+        self.checkpoint, self.progress = life.watch.checkpoint, life.progress
+        self.remembered = life.watch.remembered
         # whether this asks for whole transactions, and whether it ends the session, once stored
         self.is_whole = self.ends_session = False
         # whether the progress was told that the stream is held for a repair
@@ -135,7 +125,7 @@ class Repairing:
     def look(self) -> None:
         """Looks at the publications before the copy: what was found is of rows in it."""
         self.texts = set()
-        if self.watch.look_again(self.stream.attend, self.confirming.position):
+        if self.watch.look_again(self.upkeep.attend, self.confirming.position):
             self.texts = {text for found in self.remembered.found.values() for text in found.texts}
 
     def step(self) -> None:
@@ -182,7 +172,7 @@ class Repairing:
 
     def push(self, frames: list[bytes]) -> None:
         self.noting.note_all([payload_of(it) for it in frames])
-        self.stream.push(b"".join(frames))
+        self.upkeep.push(b"".join(frames))
         self.noting.show()
 
     def finish(self) -> None:

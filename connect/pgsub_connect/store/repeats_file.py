@@ -11,33 +11,28 @@ a commit that has nothing else comes only then.
 
 import os
 import zlib
-from collections.abc import Callable, Iterable
 
 from pgsub_feed.errors import told_of
 from pgsub_feed.files import remove
 
+from ..server.session import Subscription
 from .checkpoint import Checkpoint
 
 SUFFIX = ".repeats"
 
 
 class RepeatsFile:
-    """It. `publications`: the names of those that are followed; `messages`: whether logical messages
-    are asked for."""
+    """It. `messages`: whether logical messages are asked for."""
 
     def __init__(
-        self,
-        store: str,
-        checkpoint: Checkpoint,
-        publications: Callable[[], Iterable[str]],
-        messages: bool = False,
+        self, store: str, checkpoint: Checkpoint, subscription: Subscription, messages: bool = False
     ) -> None:
         self.path = os.path.abspath(store + SUFFIX)
-        self.checkpoint, self.publications, self.messages = checkpoint, publications, messages
+        self.checkpoint, self.subscription, self.messages = checkpoint, subscription, messages
 
     def checksum(self) -> int:
         """That of what is asked for: the names of the publications, and messages."""
-        names = [*sorted(self.publications()), *([""] if self.messages else [])]
+        names = [*sorted(self.subscription.publications), *([""] if self.messages else [])]
         return zlib.crc32("\0".join(names).encode())
 
     def since(self) -> int:
