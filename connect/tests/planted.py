@@ -752,7 +752,7 @@ BUGS = (
     Bug(
         "a table that can't be added is no finding",
         "pgsub_connect/add/adder.py",
-        "self.remembered.find(PUBLICATION, self.confirming.position, text, About((oid,)))",
+        "self.remembered.found.find(PUBLICATION, self.confirming.position, text, About((oid,)))",
         "pass",
         ("test_refusing",),
     ),

@@ -77,7 +77,7 @@ class VerifyCase(TablesCase):
     def confirm(self, lsn: int) -> None:
         (self.path / "confirmed").write_text(f"0/{lsn:X}\n")
 
-    def source(self, _: Subscription, store: str, known: Any, check: Any) -> Any:
+    def source(self, _: Subscription, store: str, known: Any, *__: object) -> Any:
         self.known = known
         found = SimpleNamespace(
             plain=connection_to(self.server),

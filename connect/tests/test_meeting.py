@@ -196,7 +196,7 @@ class Servers(Quiet):
         self.addCleanup(patch.stop)
 
     def source(self, known: Known = KNOWN) -> Source:
-        source = Source(Subscription(publications=["pgsub"]), "s", known, never)
+        source = Source(Subscription(publications=["pgsub"]), "s", known, never, "verify")
         self.addCleanup(source.close)
         return source
 

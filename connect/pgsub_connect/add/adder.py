@@ -306,7 +306,7 @@ class Adder:
             self.left_out.forget(oid)
         self.remembered.refuse(oid, why)
         text = f"table {self.remembered.text_of(oid)} can't be added: {why}"
-        self.remembered.find(PUBLICATION, self.confirming.position, text, About((oid,)))
+        self.remembered.found.find(PUBLICATION, self.confirming.position, text, About((oid,)))
         self.progress.enter("following")
         self.show()
         self.watch.keep()

@@ -10,8 +10,7 @@ import dataclasses
 import os
 import stat
 import time
-from collections.abc import Mapping, Sequence
-from types import MappingProxyType
+from collections.abc import Sequence
 
 from pgsub_feed import log
 from pgsub_feed.errors import Passing, Stopped
@@ -60,16 +59,10 @@ def run(options: Options, check: Check) -> int:
     with Subscription(options.dsn, slot).connected("tables", check) as connection:
         published = published_tables(connection, options.publication)
     tables = {it.oid: it.text() for it in chosen(published, list(options.table))}
-    return add(options.store, options.mode, tables, check)
+    return add(options.store, options.mode, tables, {}, check)
 
 
-def add(
-    store: str,
-    mode: int,
-    adds: dict[int, str],
-    check: Check,
-    removes: Mapping[int, str] = MappingProxyType({}),
-) -> int:
+def add(store: str, mode: int, adds: dict[int, str], removes: dict[int, str], check: Check) -> int:
     """Has tables added, and the rows of others removed, and waits for it; the exit status."""
     tables = {**adds, **removes}
     parts = (("adds", adds), ("removes the rows of", removes))

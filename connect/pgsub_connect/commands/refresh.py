@@ -134,4 +134,4 @@ def run(options: Options, check: Check) -> int:
     ]
     if not options.yes and not ask_terminal(f"{'; '.join(parts)}?", check, "refresh"):
         return LEFT
-    return add.add(options.store, options.mode, tables, check, extra)
+    return add.add(options.store, options.mode, tables, extra, check)

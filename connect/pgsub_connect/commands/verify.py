@@ -114,4 +114,4 @@ def repaired(options: Options, comparison: StoreComparison, found: Compared, che
         log.error(str(error))
         return DIFFERENT
     adds = {it.oid: it.text() for it in left}
-    return add.add(options.store, options.mode, adds, check) if adds else EQUAL
+    return add.add(options.store, options.mode, adds, {}, check) if adds else EQUAL

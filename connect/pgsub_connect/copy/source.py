@@ -107,12 +107,7 @@ class Source:
     """The server: its published tables, and a transaction that sees them as of a slot's LSN."""
 
     def __init__(
-        self,
-        subscription: Subscription,
-        store: str,
-        known: Known,
-        check: Check,
-        purpose: str = "verify",
+        self, subscription: Subscription, store: str, known: Known, check: Check, purpose: str
     ) -> None:
         self.subscription, self.store = subscription, store
         self.check, self.purpose = check, purpose

@@ -6,7 +6,7 @@ from pgsub_feed.relation import Relation, Shape
 
 from ..server.catalog import Catalog, Table
 from .differences import differences, gone, shape_differences
-from .findings import NAMES, NOTHING, About, Findings, tables_of
+from .findings import NAMES, Findings, tables_of
 from .names import Names
 from .remembered_lines import Kept, Outstanding, Sent, Unsaved
 
@@ -186,10 +186,6 @@ class Baseline:
         if lsn > self.sent[oid].lsn:
             self.sent[oid] = dataclasses.replace(self.sent[oid], lsn=lsn)
             self.unsaved.note()
-
-    def find(self, kind: str, lsn: int, text: str, about: About = NOTHING) -> bool:
-        """Notes what was found, and what it is about. Returns false where it was known."""
-        return self.found.find(kind, lsn, text, about)
 
     def described(self, oid: int) -> Relation | None:
         """A table as it was described last, by which its rows can go; None where unknown."""

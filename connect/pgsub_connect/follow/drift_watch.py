@@ -195,7 +195,7 @@ class Watch:
         ends the following later, where that is to be strict."""
         stays = "; nothing of that is stored" if self.tolerance.stops else ""
         for kind, text in told:
-            self.remembered.find(kind, position, text + (stays if kind in STOPPING else ""))
+            self.remembered.found.find(kind, position, text + (stays if kind in STOPPING else ""))
         # (the checkpoint can be written also where a disk is full)
         self.note_kinds()
         if self.remembered.unsaved.is_urgent:
@@ -208,7 +208,7 @@ class Watch:
 
     def note(self, kind: str, lsn: int, text: str) -> None:
         """Keeps what the caller has found, and ends the following with."""
-        self.remembered.find(kind, lsn, text)
+        self.remembered.found.find(kind, lsn, text)
         self.remembered.found.take_news()
         self.remembered.save()
         self.checkpoint.note_found(kind, lsn)

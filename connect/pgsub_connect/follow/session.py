@@ -179,7 +179,7 @@ class Session:
             about = About(publication=names[-1], is_missing=True) if names else NOTHING
             text = f"the server leaves out changes from before a publication was made: {text}"
             remembered = self.life.watch.remembered
-            remembered.find(PUBLICATION, self.confirming.position, text, about)
+            remembered.found.find(PUBLICATION, self.confirming.position, text, about)
 
     def end(self) -> None:
         """Ends the filter's input, sends what it still confirms, and ends the session."""

@@ -123,7 +123,11 @@ CODE, PLACE_IN_SOURCE = re.compile(r":  ([0-9A-Z]{5}): "), re.compile(r"\n[^\n]*
 DONE = (pq.PollingStatus.OK, pq.PollingStatus.FAILED)
 
 
-def connect(settings: dict[str, str], check: Check) -> tuple[pq.abc.PGconn, transport.Protection]:
+# A connection, and how it is protected.
+Connected = tuple[pq.abc.PGconn, transport.Protection]
+
+
+def connect(settings: dict[str, str], check: Check) -> Connected:
     """Connects to the first host that can be reached. The error is that of all of them."""
     limit, errors = connect_limit(settings.pop("connect_timeout", "")), []
     for attempt in hosts_of(settings):
@@ -134,9 +138,7 @@ def connect(settings: dict[str, str], check: Check) -> tuple[pq.abc.PGconn, tran
     raise together(errors)
 
 
-def connect_to_host(
-    settings: dict[str, str], limit: float, check: Check
-) -> tuple[pq.abc.PGconn, transport.Protection]:
+def connect_to_host(settings: dict[str, str], limit: float, check: Check) -> Connected:
     """Connects to a host's first address that answers. What lasts is the host's own answer."""
     errors = []
     for resolved in addresses_of(settings, check):
@@ -149,9 +151,7 @@ def connect_to_host(
     raise together(errors)
 
 
-def connect_to(
-    settings: dict[str, str], limit: float, check: Check
-) -> tuple[pq.abc.PGconn, transport.Protection]:
+def connect_to(settings: dict[str, str], limit: float, check: Check) -> Connected:
     """Connects to one address. How it is protected is settled before, and judged after."""
     settings = transport.OWN.guarded(settings)
     raw = pq.PGconn.connect_start(

@@ -84,10 +84,6 @@ class Facts:
     replicators: str = ""
 
 
-def true(text: str | None) -> bool:
-    return text == "t"
-
-
 @understood("its settings")
 def server_facts(connection: Connection, slot: str) -> Facts:
     """What concerns the server, the role and the slot."""
@@ -101,7 +97,8 @@ def server_facts(connection: Connection, slot: str) -> Facts:
         " (SELECT pg_catalog.count(*) FROM pg_catalog.pg_stat_replication)"
     )[0]
     said = {name or "": value or "" for name, value in settings}
-    more = true(standby), database or "", connection.protection, int(slots or 0), int(senders or 0)
+    counts, protection = (int(slots or 0), int(senders or 0)), connection.protection
+    more = standby == "t", database or "", protection, *counts
     role, known = role_facts(connection), read_slot(connection, slot)
     return Facts(connection.version(), said, *more, role, known)
 
@@ -113,7 +110,8 @@ def role_facts(connection: Connection) -> Role:
         " pg_catalog.has_database_privilege(pg_catalog.current_database(), 'CREATE')"
         " FROM pg_catalog.pg_roles r WHERE r.rolname = CURRENT_USER"
     )[0]
-    return Role(name or "", true(superuser), true(replicates) or true(superuser), true(creates))
+    is_superuser = superuser == "t"
+    return Role(name or "", is_superuser, is_superuser or replicates == "t", creates == "t")
 
 
 @understood("the publications")
@@ -196,7 +194,7 @@ def tables_facts(connection: Connection, source: str) -> list[TableFacts]:
         f" FROM (SELECT DISTINCT s.relid FROM ({source}) s) d JOIN pg_catalog.pg_class c ON c.oid = d.relid"
         " JOIN pg_catalog.pg_namespace n ON n.oid = c.relnamespace ORDER BY 1"
     )
-    return [TableFacts(row[0] or "", *(true(it) for it in row[1:])) for row in rows]
+    return [TableFacts(row[0] or "", *(it == "t" for it in row[1:])) for row in rows]
 
 
 def all_facts(subscription: Subscription, wanted: Wanted, check: Check) -> Facts:

@@ -296,10 +296,7 @@ def other_slots(connection: Connection, slot: str) -> list[str]:
 def drop_publications(connection: Connection, made: dict[str, int]) -> None:
     """Drops publications that still are those that were made."""
     for name, oid in made.items():
-        rows = connection.rows(
-            f"SELECT p.pubname FROM pg_catalog.pg_publication p WHERE p.oid = {oid} AND p.pubname = {literal(name)}"
-        )
-        if rows:
+        if oid_of(connection, name) == oid:
             drop_publication(connection, name)
 
 

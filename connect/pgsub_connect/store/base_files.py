@@ -172,10 +172,7 @@ def placed_folder(feed: str, mode: int) -> Iterator[str]:
 
 
 def write_base(
-    wanted: Wanted,
-    relations: Mapping[int, Relation],
-    rows: Iterable[tuple[int, bytes, int]],
-    check: Check,
+    wanted: Wanted, relations: Mapping[int, Relation], rows: Iterable[Held], check: Check
 ) -> int:
     """Writes the rows, each as often as it is there; returns how many they are."""
     with placed_folder(wanted.feed, wanted.mode) as folder:

@@ -123,9 +123,8 @@ def fold(path: str) -> None:
 
 def position_in(path: str) -> int | None:
     """The position of a store in one file; None where it has none."""
-    name = f"file:{urllib.parse.quote(os.fsencode(path))}?mode=ro&immutable=1"
     try:
-        with contextlib.closing(sqlite3.connect(name, uri=True)) as store:
+        with contextlib.closing(opened(path)) as store:
             row = store.execute("SELECT lsn FROM pos").fetchone()
     except sqlite3.DatabaseError:
         return None

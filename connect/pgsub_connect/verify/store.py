@@ -174,7 +174,7 @@ def met(
     with closing(Request(store, comparison.hold, check, repairs)) as request:
         if not is_followed(store):
             raise request.ended()
-        with closing(Source(subscription, store, known, check)) as source:
+        with closing(Source(subscription, store, known, check, "verify")) as source:
             tables = settled(choose(source), known, Remembered(store).partial)
             if repairs:
                 check_sizes(subscription, source, tables)

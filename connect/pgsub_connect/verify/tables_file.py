@@ -243,7 +243,7 @@ def source_of(comparison: TablesComparison, check: Check) -> Source:
         raise Passing(f"{comparison.path} has followed nothing yet")
     known = Known(FOLLOWING, head.system, head.database, head.slot)
     subscription = dataclasses.replace(comparison.subscription, slot=head.slot)
-    return Source(subscription, comparison.path, known, check)
+    return Source(subscription, comparison.path, known, check, "verify")
 
 
 def wait(path: str, trail: Trail, point: int, check: Check) -> None:
