@@ -26,7 +26,7 @@ from pgsub_feed.tables.values import Malformed
 
 from ..drift.remembered import Remembered
 from ..server.copied_text import tuples
-from .export import Export
+from .export import Export, ExportSettings
 
 # The head of a frame: a letter and a length, which counts itself; the OID and how many columns.
 HEAD = struct.Struct(">cIIH")
@@ -72,7 +72,8 @@ def fill(wanted: Wanted, source: BinaryIO, check: Check) -> None:
     with placed(wanted.into, wanted.mode) as new, contextlib.closing(
         sqlite3.connect(new, isolation_level=None)
     ) as db:
-        export = Export(db, wanted.form, check)
+        settings = ExportSettings(wanted.store, wanted.into, wanted.form)
+        export = Export(db, settings, check, lambda rows: None)
         export.run(remembered, wanted.point, {}, rows_of(source))
         prepare(db, os.path.abspath(wanted.feed), (), True)
 

@@ -46,20 +46,30 @@ STEPS = 1_000_000
 Held = tuple[int, bytes, int]
 
 
+@dataclasses.dataclass(frozen=True)
+class ExportSettings:
+    """Which store is exported into which file. `form`: how numerics or values are kept; `chosen`:
+    the named tables, all where there are none; `has_indexes`: with the server's indexes."""
+
+    store: str
+    into: str
+    form: str = BOTH
+    chosen: Sequence[str] = ()
+    mode: int = 0o600
+    has_indexes: bool = False
+
+
+# What is told how many rows are written.
+Note = Callable[[int], None]
+
+
 class Export:
     """Fills a new file, in one transaction and constant memory; nothing is kept to go back."""
 
     def __init__(
-        self,
-        into: sqlite3.Connection,
-        form: str,
-        check: Check,
-        names: Sequence[str] = (),
-        indexes: Indexes | None = None,
-        note: Callable[[int], None] = lambda rows: None,
+        self, into: sqlite3.Connection, settings: ExportSettings, check: Check, note: Note
     ) -> None:
-        self.into, self.form, self.check, self.names = into, form, check, names
-        self.indexes, self.note = indexes, note
+        self.into, self.settings, self.check, self.note = into, settings, check, note
 
     def run(
         self,
@@ -69,14 +79,15 @@ class Export:
         held: Iterable[Held],
     ) -> tuple[int, int, int]:
         """Writes it all. Returns the position, how many tables there are, and how many rows."""
-        relations = named(choose(stored, remembered, position), self.names)
+        relations = named(choose(stored, remembered, position), self.settings.chosen)
         tables = remembered.catalog.tables if remembered.catalog else {}
-        known = {oid: it.primary for oid, it in tables.items()}
-        keys = {it.oid: primary_key(known.get(it.oid, ()), it) for it in relations}
+        primary = {oid: it.primary for oid, it in tables.items()}
+        keys = {it.oid: primary_key(primary.get(it.oid, ()), it) for it in relations}
         self.begin(position, relations, keys)
         self.copy_rows(stored, held)
-        if self.indexes:
-            self.indexes.make(self.into, self.targets.values())
+        if self.settings.has_indexes:
+            known = KnownTables(self.settings.store)
+            Indexes(known).make(self.into, self.targets.values())
         self.into.execute("COMMIT")
         return position, len(self.targets), sum(it.rows for it in self.targets.values())
 
@@ -94,7 +105,7 @@ class Export:
         into.execute(f"UPDATE {POSITION} SET lsn = ?", (lsn_text(position),))
         names = name_tables((it.oid, it.namespace, it.name) for it in relations)
         self.targets = {
-            it.oid: Target(names[it.oid], it, self.form, keys[it.oid]) for it in relations
+            it.oid: Target(names[it.oid], it, self.settings.form, keys[it.oid]) for it in relations
         }
         for oid, target in self.targets.items():
             it = target.relation
@@ -198,19 +209,6 @@ def repeated(
     yield some
 
 
-@dataclasses.dataclass(frozen=True)
-class ExportSettings:
-    """Which store is exported into which file. `form`: how numerics or values are kept; `chosen`:
-    the named tables, all where there are none; `has_indexes`: with the server's indexes."""
-
-    store: str
-    into: str
-    form: str = BOTH
-    chosen: Sequence[str] = ()
-    mode: int = 0o600
-    has_indexes: bool = False
-
-
 def export_store(settings: ExportSettings, check: Check) -> None:
     """Exports a store, or a copy of one."""
     check_sqlite()
@@ -232,7 +230,6 @@ def export_store(settings: ExportSettings, check: Check) -> None:
 def export(path: str, new: str, settings: ExportSettings, check: Check) -> tuple[int, int, int]:
     """Exports a file at rest into a new one; what is remembered lies beside the store."""
     remembered = Remembered(settings.store)
-    indexes = Indexes(KnownTables(settings.store)) if settings.has_indexes else None
     try:
         with contextlib.closing(opened(path)) as store, contextlib.closing(
             sqlite3.connect(new, isolation_level=None)
@@ -241,8 +238,7 @@ def export(path: str, new: str, settings: ExportSettings, check: Check) -> tuple
                 db.set_progress_handler(lambda: is_ended(check), STEPS)
             meter = Meter("exporting")
             total = store.execute("SELECT count(*) FROM held").fetchone()[0]
-            told, note = (settings.form, check, settings.chosen), partial(meter.note, total=total)
-            made = Export(into, *told, indexes, note)
+            made = Export(into, settings, check, partial(meter.note, total=total))
             # (in the order in which the file has them)
             held = store.execute("SELECT oid, body, copies FROM held NOT INDEXED")
             return made.run(remembered, read_position(store), read_relations(store), held)
