@@ -70,16 +70,8 @@ def compared(remembered: Remembered, now: Catalog) -> list[Told]:
     assert before is not None
     known = set(before.tables)
     remembered.look(now)
-    found: dict[int, list[str]] = {}
-    others = []
-    for kind in (PUBLICATION, VALUES):
-        for text in texts_of(remembered, kind):
-            oids = remembered.tables_of(text)
-            for oid in oids:
-                if oid not in remembered.found.mended.get(text, ()):
-                    found.setdefault(oid, []).append(text)
-            if not oids:
-                others.append(text)
+    texts = [text for kind in (PUBLICATION, VALUES) for text in texts_of(remembered, kind)]
+    found, others = remembered.by_table(texts)
     told = []
     for oid in sorted(found.keys() & now.tables.keys()):
         is_missing = oid not in known or any(

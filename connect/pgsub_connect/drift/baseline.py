@@ -1,6 +1,7 @@
 """What a server is compared with: what is remembered of its publications, and was found."""
 
 import dataclasses
+from collections.abc import Iterable
 
 from pgsub_feed.relation import Relation, Shape
 
@@ -199,6 +200,18 @@ class Baseline:
     def tables_of(self, text: str) -> list[int]:
         """The published tables that a text is about."""
         return tables_of(self.found.about(text), self.catalog)
+
+    def by_table(self, texts: Iterable[str]) -> tuple[dict[int, list[str]], list[str]]:
+        """What was found by the OIDs of the published tables that it is about, but for those whose
+        rows came anew since; and what is about none of them."""
+        found, others = dict[int, list[str]](), list[str]()
+        for text in texts:
+            oids, mended = self.tables_of(text), self.found.mended.get(text, ())
+            others += [] if oids else [text]
+            for oid in oids:
+                if oid not in mended:
+                    found.setdefault(oid, []).append(text)
+        return found, others
 
     def never_copied(self, oid: int) -> None:
         """Forgets a table that went before any row of it was copied."""

@@ -112,16 +112,10 @@ class Altered:
 
     def found(self) -> dict[int, set[str]]:
         """What was found of each table. What is of none that is published stays."""
-        remembered = self.remembered
-        found: dict[int, set[str]] = {}
-        for text in remembered.found[VALUES].texts if VALUES in remembered.found else ():
-            oids = remembered.tables_of(text)
-            if not oids:
-                self.lasting.add(text)
-            for oid in oids:
-                if oid not in remembered.found.mended.get(text, ()):
-                    found.setdefault(oid, set()).add(text)
-        return found
+        values = self.remembered.found.get(VALUES)
+        found, others = self.remembered.by_table(values.texts if values else ())
+        self.lasting.update(others)
+        return {oid: set(it) for oid, it in found.items()}
 
     def is_left(self, oid: int, texts: set[str]) -> bool:
         """Whether nothing is done about a table yet, or there is something new about it."""
