@@ -72,11 +72,10 @@ class Library:
         self.calls = calls = ctypes.CDLL(path)
         size, number = ctypes.c_size_t, ctypes.c_uint32
         bytes_, room = (ctypes.c_char_p, size), (ctypes.c_void_p, size, ctypes.POINTER(size))
-        self._decode, self._show = calls.pgsub_decode, calls.pgsub_show
-        self._decode.argtypes, self._decode.restype = (*bytes_, ctypes.c_bool, *room), number
-        self._show.argtypes, self._show.restype = (number, *bytes_, *room, *room), number
         handle, clock, lsn = ctypes.POINTER(Handle), ctypes.c_int64, ctypes.POINTER(ctypes.c_uint64)
         for name, *words in (
+            ("decode", *bytes_, ctypes.c_bool, *room),
+            ("show", number, *bytes_, *room, *room),
             ("open", number, handle),
             ("feed", handle, *bytes_, clock, *room),
             ("status", handle, clock, ctypes.c_bool),
@@ -90,7 +89,7 @@ class Library:
         calls.pgsub_close.argtypes, calls.pgsub_close.restype = [handle], None
 
     def call(self, name: str, *words: object) -> int:
-        """The number that a call of a handle returns."""
+        """The number that a call returns."""
         return int(getattr(self.calls, f"pgsub_{name}")(*words))
 
     def close(self, handle: Handle) -> None:
@@ -99,17 +98,16 @@ class Library:
 
     def decode(self, payload: bytes, in_block: bool = False) -> str:
         """The line of a CopyData's payload. `in_block`: between Stream Start and Stream Stop."""
-        decode = partial(self._decode, payload, len(payload), in_block)
-        number, room = with_room(lambda room: int(decode(*room.words())))
+        decode = partial(self.call, "decode", payload, len(payload), in_block)
+        number, room = with_room(lambda room: decode(*room.words()))
         if number:
             raise Fault(number, room.text())
         return room.text().rstrip("\n")
 
     def show_session(self, session: bytes, version: int = 2) -> tuple[list[str], Fault | None]:
         """The lines of a session's frames, and the fault that ends them."""
-        text, said = Room(TEXT), (version, session, len(session))
-        show = partial(self._show, *said)
-        number, room = with_room(lambda room: int(show(*room.words(), *text.words())))
+        text, show = Room(TEXT), partial(self.call, "show", version, session, len(session))
+        number, room = with_room(lambda room: show(*room.words(), *text.words()))
         # (a text has line feeds only where a line ends)
         return room.text().split("\n")[:-1], Fault(number, text.text()) if number else None
 

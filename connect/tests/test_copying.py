@@ -10,6 +10,7 @@ import os
 import sqlite3
 import time
 import unittest
+from functools import partial
 from collections.abc import Callable, Sequence
 from typing import Any, cast
 from unittest import mock
@@ -1251,7 +1252,7 @@ class Waiting(Quiet):
         self.server.answer("pg_blocking_pids(4711)", [["8", "app", "shop", "12"]])
         with mock.patch.object(waits_module, "FIRST", 0):
             waits_module.Waiting(
-                Subscription(), lambda: None, waits_module.lock_text("the copy", 4711)
+                Subscription(), lambda: None, partial(waits_module.lock_text, "the copy", 4711)
             ).check()
         self.assertEqual(
             self.said, ["the copy waits for the locks of process 8 (app, database shop) for 12 s"]
@@ -1261,7 +1262,7 @@ class Waiting(Quiet):
         self.server.answer("pg_blocking_pids(4711)", [])
         with mock.patch.object(waits_module, "FIRST", 0):
             waits_module.Waiting(
-                Subscription(), lambda: None, waits_module.lock_text("the copy", 4711)
+                Subscription(), lambda: None, partial(waits_module.lock_text, "the copy", 4711)
             ).check()
         self.assertEqual((self.said, self.server.opened, self.server.closed), ([], 1, 1))
 

@@ -21,7 +21,7 @@ from pgsub_feed.interruption import Check
 from pgsub_feed.options import BYTES, SECONDS, add_fields, duration, flag, no, option
 
 from ..status.files import STATUS
-from ..status.health import ENDED, KINDS, Fault, Limit, cures_of, faults, line_of, screen_of
+from ..status.health import ENDED, KINDS, Fault, Limit, faults, lines_of, screen_of
 from ..stream.room import NONE, room_of
 
 ABOUT = """\
@@ -108,13 +108,6 @@ def read(path: str) -> dict[str, Any]:
 
 
 Text = Callable[[dict[str, Any], float, list[Fault]], Iterator[str]]
-
-
-def lines_of(status: dict[str, Any], age: float, wrong: list[Fault]) -> Iterator[str]:
-    """What is printed once."""
-    text = line_of(status, age, wrong)
-    yield log.coloured(text, "error" if wrong else "ok", sys.stdout)
-    yield from cures_of(status, wrong)
 
 
 def look(path: str, options: Options, text: Text) -> tuple[int, list[str]]:

@@ -22,7 +22,8 @@ from pgsub_feed.tables.set_aside import store_at
 from pgsub_feed.tables.sqlite_files import is_tables
 from pgsub_feed.texts import lsn_text
 
-from ..store.checkpoint import is_at_work, read_known
+from ..store.at_rest import is_followed
+from ..store.checkpoint import read_known
 from ..store.checkpoint_lines import FOLLOWING
 from ..store.socket_file import Asking
 
@@ -119,23 +120,25 @@ def check_comes(path: str, feed: str | None, began: float, until: float) -> None
     beside the feed; or may have been started just now."""
     at, now = os.path.abspath(path), time.monotonic()
     checkpoints = glob.glob(f"{glob.escape(os.path.dirname(at))}/*.connector")
+    stores = [it.removesuffix(".connector") for it in checkpoints]
     if feed and (store := store_at(os.path.abspath(feed))):
-        checkpoints.append(store + ".connector")
-    if not any(may_make(it, at) for it in checkpoints) and now > began + STARTING:
+        stores.append(store)
+    if not any(may_make(it, at) for it in stores) and now > began + STARTING:
         text = f"there is no file {path}, and no follower of a store in its folder makes it: --feed names the feed of one elsewhere"
         raise FileError(text)
     if now > until:
         raise Passing(f"{path} isn't there yet: `pgsub-connect status` tells why")
 
 
-def may_make(checkpoint: str, tables: str) -> bool:
+def may_make(store: str, tables: str) -> bool:
     """Whether the follower of a store makes these tables, or is about to begin and may. (It notes
     which ones before it copies rows. Other accounts than its own don't know.)"""
+    checkpoint = store + ".connector"
     if os.path.lexists(checkpoint) and not os.access(checkpoint, os.R_OK):
         return True
     known = read_known(checkpoint)
     begins = not known.tables and known.phase != FOLLOWING
-    return known.tables == tables or begins and is_at_work(checkpoint)
+    return known.tables == tables or begins and is_followed(store)
 
 
 def waited(path: str, feed: str | None, lsn: int, until: float, check: Check) -> bool:

@@ -20,6 +20,7 @@ by itself, too, as the module `add.adder` says.
 import contextlib
 import dataclasses
 import time
+from functools import partial
 
 from pgsub_feed import log
 from pgsub_feed.errors import FileError, Passing, Unfit
@@ -220,7 +221,7 @@ class Copier(Worker):
         """Makes the slot, and reads the tables under its snapshot."""
         beside = self.beside
         # (from 16 on the server locks a table to say what is published of it)
-        what = lock_text("the copy", plain.pid())
+        what = partial(lock_text, "the copy", plain.pid())
         waiting = Waiting(self.subscription, self.slot.check_all, what)
         with plain.checked_by(waiting.check):
             tables = self.tables.published(plain)

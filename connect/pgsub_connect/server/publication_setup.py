@@ -10,6 +10,7 @@ import dataclasses
 import secrets
 from collections.abc import Callable, Mapping, Sequence
 from contextlib import closing
+from functools import partial
 from types import MappingProxyType
 
 from pgsub_feed import log
@@ -90,7 +91,7 @@ class Maker:
         self.publications, self.said, self.begun = list(self.wanted.publications), [], {}
         self.connection = connection = self.subscription.connect(self.check, "publication")
         with closing(connection):
-            locks = lock_text("the publication", connection.pid())
+            locks = partial(lock_text, "the publication", connection.pid())
             connection.set_check(Waiting(self.subscription, self.check, locks).check)
             self.path = connection.value("SELECT pg_catalog.current_setting('search_path')") or ""
             self.is_standby = connection.value("SELECT pg_catalog.pg_is_in_recovery()") == "t"

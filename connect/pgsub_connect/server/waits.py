@@ -67,24 +67,21 @@ def what_blocks(connection: Connection, pid: int) -> str:
     )
 
 
-def lock_text(what: str, pid: int) -> Callable[[Connection], str]:
-    """What says for whose locks a process of the server waits, which is at work on this."""
+def lock_text(what: str, pid: int, connection: Connection) -> str:
+    """For whose locks a process of the server waits, which is at work on this."""
+    others = what_blocks(connection, pid)
+    return f"{what} waits for the locks of {others}" if others else ""
 
-    def text(connection: Connection) -> str:
-        others = what_blocks(connection, pid)
-        return f"{what} waits for the locks of {others}" if others else ""
 
-    return text
+# What says, as a connection tells it, for what something waits.
+Says = Callable[[Connection], str]
 
 
 class Waiting:
     """Is asked while something is waited for, of which `text` says what, "" for nothing."""
 
     def __init__(
-        self,
-        subscription: Subscription,
-        check_stop: Check,
-        text: Callable[[Connection], str] = slot_text,
+        self, subscription: Subscription, check_stop: Check, text: Says = slot_text
     ) -> None:
         self.subscription, self.check_stop, self.text = subscription, check_stop, text
         self.next = time.monotonic() + FIRST

@@ -204,10 +204,15 @@ def cures_of(status: Mapping[str, Any], wrong: list[Fault]) -> Iterator[str]:
         yield log.escaped(f"  it runs version {old}, and {new} is installed: start it again")
 
 
-def screen_of(status: Mapping[str, Any], age: float, wrong: list[Fault]) -> Iterator[str]:
-    """The lines of the screen."""
+def lines_of(status: Mapping[str, Any], age: float, wrong: list[Fault]) -> Iterator[str]:
+    """What is printed once."""
     yield log.coloured(line_of(status, age, wrong), "error" if wrong else "ok", sys.stdout)
     yield from cures_of(status, wrong)
+
+
+def screen_of(status: Mapping[str, Any], age: float, wrong: list[Fault]) -> Iterator[str]:
+    """The lines of the screen."""
+    yield from lines_of(status, age, wrong)
     yield ""
     said = status.get("changes_per_second")
     rate = float(said) if isinstance(said, (int, float)) else 0.0

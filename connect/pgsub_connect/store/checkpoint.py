@@ -338,12 +338,3 @@ def locked(path: str) -> Iterator[None]:
         yield
     finally:
         os.close(file)
-
-
-def is_at_work(path: str) -> bool:
-    """Whether a connector or its filter is at work."""
-    try:
-        with locked(path):
-            return False
-    except Passing:
-        return True

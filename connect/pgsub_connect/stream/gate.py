@@ -101,9 +101,10 @@ class Gating:
     def look(self) -> None:
         """Looks whether the slot still waits: all that the last look saw is below it then."""
         try:
-            connection = self.connection or self.connect()
+            if self.connection is None:
+                self.connection = self.subscription.connect(self.check, "hold", quiet=True)
             with understood("the slot in the making"):
-                end, waits = connection.rows(waits_query(self.hold.maker), QUICK)[0]
+                end, waits = self.connection.rows(waits_query(self.hold.maker), QUICK)[0]
                 at = parse_lsn(end or "0/0")
         except ServerError:
             # (the session says itself what is wrong)
@@ -113,10 +114,6 @@ class Gating:
         if waits == "t" and self.end > (self.hold.gate or 0):
             self.hold.open_to(self.end)
         self.end = at
-
-    def connect(self) -> Connection:
-        self.connection = self.subscription.connect(self.check, "hold", quiet=True)
-        return self.connection
 
     def end_session(self) -> None:
         self.since = None
