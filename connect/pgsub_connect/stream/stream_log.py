@@ -165,11 +165,7 @@ class Noting:
             elif letter == COMMIT:
                 self.changes += sum(counts.values())
                 passed = (self.begun, counts, False, total - self.began)
-                self.ends.append(int.from_bytes(payload[35:43], "big"))
-                self.passed.append(passed)
-                self.commits += 1
-                if self.relations.bodies or self.relation_log.described:
-                    self.describe(passed, self.relations)
+                self.commit(passed, self.relations, payload[35:43])
                 self.begun = b""
                 self.counts = counts = {}
             elif letter:
@@ -226,15 +222,12 @@ class Noting:
             self.open[xid].abort(payload[30:34])
 
     def commit(self, passed: Passed, relations: Described, end: bytes) -> None:
-        self.ends.append(int.from_bytes(end, "big"))
+        self.ends.append(number(end))
         self.passed.append(passed)
         self.commits += 1
         if relations.bodies or self.relation_log.described:
-            self.describe(passed, relations)
-
-    def describe(self, passed: Passed, relations: Described) -> None:
-        self.relation_log.describe(passed[1], messages.final_lsn(passed[0]), relations)
-        self.relations = Described()
+            self.relation_log.describe(passed[1], messages.final_lsn(passed[0]), relations)
+            self.relations = Described()
 
     def show(self) -> None:
         """Tells the progress what came, and how far the transaction that isn't complete has come.
