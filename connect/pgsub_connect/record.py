@@ -30,9 +30,8 @@ HEAD = BEGUN.encode()
 class Session:
     """What a recording says of a session. `asks_for`: the options of the protocol."""
 
-    server_version: str | None
-    slot: str
-    publications: Sequence[str]
+    server_version: str
+    subscription: session.Subscription
     proto: int
     asks_for: Sequence[str]
     start: int
@@ -68,9 +67,11 @@ class Recording:
     def begin_session(self, session: Session) -> None:
         if self.written:
             self.write_line("--")
-        names, version = ", ".join(session.publications), session.server_version
+        it, version = session.subscription, session.server_version
         self.write_line(f"{BEGUN}{time.strftime('%Y-%m-%d %H:%M:%S UTC', time.gmtime())}")
-        self.write_line(f"# PostgreSQL {version}, slot {session.slot}, publication {names}")
+        self.write_line(
+            f"# PostgreSQL {version}, slot {it.slot}, publication {', '.join(it.publications)}"
+        )
         asked = "".join(f", {it}" for it in (*session.asks_for, f"from {lsn_text(session.start)}"))
         self.write_line(f"# protocol version {session.proto}{asked}")
 
@@ -219,9 +220,8 @@ class Recorder(Worker):
             options = [f"{it} 'true'" for it in settings.asks_for]
             command = self.subscription.start_command(settings.start, self.proto, options)
             connection.run(command, wanted=COPY_BOTH)
-            version, it = connection.parameter("server_version"), self.subscription
-            asked = self.proto, settings.asks_for, settings.start
-            self.recording.begin_session(Session(version, it.slot, it.publications, *asked))
+            asked = self.subscription, self.proto, settings.asks_for, settings.start
+            self.recording.begin_session(Session(connection.parameter("server_version"), *asked))
             self.record(connection)
             if settings.confirm:
                 self.send_status(connection)

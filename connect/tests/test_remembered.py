@@ -13,10 +13,12 @@ import tempfile
 import unittest
 from unittest import mock
 
+from pgsub_connect.commands import names
 from pgsub_connect.drift.findings import MOST, NOTHING, About, Found
-from pgsub_connect.drift.remembered import Remembered, print_names
+from pgsub_connect.drift.remembered import Remembered
 from pgsub_connect.server.catalog import Part, Partition
 from pgsub_feed.errors import FileError, Passing
+from pgsub_feed.interruption import never
 from pgsub_feed.relation import Relation
 
 from .vectors import ID, NAME, PGSUB, a_catalog, a_shape, a_table
@@ -525,7 +527,7 @@ class Names(Case):
         self.again()
         out = io.StringIO()
         with contextlib.redirect_stdout(out):
-            print_names(self.store)
+            names.run(names.Options(self.store), never)
         self.assertEqual(
             [json.loads(line) for line in out.getvalue().splitlines()],
             [
@@ -536,9 +538,9 @@ class Names(Case):
 
     def test_nothing_to_print(self) -> None:
         with self.assertRaisesRegex(FileError, "^there is no store .*x$"):
-            print_names(self.store + "x")
+            names.run(names.Options(self.store + "x"), never)
         with open(self.store + "x", "w"), self.assertRaisesRegex(FileError, "no such file yet"):
-            print_names(self.store + "x")
+            names.run(names.Options(self.store + "x"), never)
 
 
 if __name__ == "__main__":

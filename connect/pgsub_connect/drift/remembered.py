@@ -8,12 +8,9 @@ synced. So a reader (`pgsub-connect names`) may look at it at any time.
 """
 
 import contextlib
-import json
-import os
 from collections.abc import Iterable
 
 from pgsub_feed.errors import FileError
-from pgsub_feed.texts import lsn_text
 
 from .baseline import FORMAT, Baseline
 from .remembered_lines import KEPT, NOTED, DurableFile, line_of, noted_in, read_lines
@@ -157,15 +154,3 @@ class Remembered(Baseline):
         """Forgets all, and the file goes."""
         self.forget()
         self.file.remove()
-
-
-def print_names(store: str) -> None:
-    """Prints which OID each name has now and which ones had it before, a JSON object per line."""
-    remembered = Remembered(store)
-    if remembered.catalog is None and not os.path.exists(store):
-        raise FileError(f"there is no store {store}")
-    if remembered.catalog is None:
-        raise FileError(f"{remembered.path}: there is no such file yet: the next session makes it")
-    for it in remembered.names.rows():
-        told = {**it._asdict(), "since": lsn_text(it.since)}
-        print(json.dumps(told, ensure_ascii=False))

@@ -112,14 +112,8 @@ class SessionStart:
 
     def recorded(self, connection: Connection, at: int) -> Recorded:
         """What a recording says of this session, which asks for the changes from an LSN on."""
-        return Recorded(
-            connection.parameter("server_version"),
-            self.subscription.slot,
-            self.subscription.publications,
-            self.form.proto,
-            self.form.asks_for(),
-            at,
-        )
+        asked = self.subscription, self.form.proto, self.form.asks_for(), at
+        return Recorded(connection.parameter("server_version"), *asked)
 
     def fit(self, connection: Connection, server: Server) -> int:
         """Checks that store, server and slot fit together. Returns from where the slot sends."""
