@@ -106,10 +106,10 @@ class File(FileCase):
         fields = Known(FOLLOWING, "77", "sh\u00f6p", "pgsub", 2, 3, 4, 5, {"values": "0/7"}, "0/8")
         checkpoint = self.open()
         checkpoint.write(True, **dataclasses.asdict(fields))
-        self.assertEqual(checkpoint.read(), fields)
+        self.assertEqual(read_known(checkpoint.path), fields)
         self.assertEqual((len(self.content()), self.content()[-1:]), (SIZE, b"\n"))
         checkpoint.write(True, position=6)
-        self.assertEqual((checkpoint.read().position, len(self.content())), (6, 2 * SIZE))
+        self.assertEqual((read_known(checkpoint.path).position, len(self.content())), (6, 2 * SIZE))
 
     def test_a_new_one(self) -> None:
         self.assertEqual(self.open().known, Known())
@@ -236,7 +236,9 @@ class File(FileCase):
             line = line_of(
                 checkpoint.number, known_of.spelled(checkpoint.known), checkpoint.counted
             )
-            self.assertEqual((checkpoint.read(), line in self.content()), (checkpoint.known, True))
+            self.assertEqual(
+                (read_known(checkpoint.path), line in self.content()), (checkpoint.known, True)
+            )
 
     def test_a_note_that_cant_be_written(self) -> None:
         checkpoint = self.open()
@@ -262,20 +264,23 @@ class File(FileCase):
             with mock.patch("os.fdatasync") as sync:
                 checkpoint.note(confirmed, position)
             self.assertEqual(sync.called, synced, (confirmed, position))
-        self.assertEqual((checkpoint.read().confirmed, checkpoint.read().position), (201, 200))
+        self.assertEqual(
+            (read_known(checkpoint.path).confirmed, read_known(checkpoint.path).position),
+            (201, 200),
+        )
 
     def test_findings(self) -> None:
         checkpoint = self.open()
         self.assertTrue(checkpoint.note_found("values", 0x10))
         self.assertFalse(checkpoint.note_found("values", 0x20))
         checkpoint.note_found("names", 0x30)
-        self.assertEqual(checkpoint.read().found, {"values": "0/10", "names": "0/30"})
+        self.assertEqual(read_known(checkpoint.path).found, {"values": "0/10", "names": "0/30"})
         checkpoint.accept(["values"])
-        self.assertEqual(checkpoint.read().found, {"names": "0/30"})
+        self.assertEqual(read_known(checkpoint.path).found, {"names": "0/30"})
         checkpoint.forget_server()
         self.assertEqual(checkpoint.known, Known(found={"names": "0/30"}))
         checkpoint.accept(["all"])
-        self.assertEqual(checkpoint.read().found, {})
+        self.assertEqual(read_known(checkpoint.path).found, {})
 
     def test_a_write_that_fails_changes_nothing(self) -> None:
         checkpoint = self.open()
@@ -429,7 +434,9 @@ class Counts(FileCase):
             with mock.patch("os.fdatasync") as sync:
                 checkpoint.note_missing(more, first, relation, position)
             sync.assert_called_once()
-            self.assertEqual((self.reopened(), checkpoint.read().position), (counted, position))
+            self.assertEqual(
+                (self.reopened(), read_known(checkpoint.path).position), (counted, position)
+            )
         self.assertEqual(checkpoint.findings(), {MISSING: "0/6E"})
 
     def test_a_store_further_than_it_was_counted(self) -> None:
@@ -454,7 +461,9 @@ class Counts(FileCase):
         checkpoint.begin_counting(100, False)
         checkpoint.note(200, 200)
         self.assertFalse(checkpoint.begin_counting(90, False))
-        self.assertEqual((self.reopened(), checkpoint.read().position), (Counted(90, 90), 200))
+        self.assertEqual(
+            (self.reopened(), read_known(checkpoint.path).position), (Counted(90, 90), 200)
+        )
         self.assertTrue(checkpoint.begin_counting(95, False))
 
     def test_accepted(self) -> None:

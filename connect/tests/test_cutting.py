@@ -14,7 +14,7 @@ from pgsub_connect.add.turn import RowsSender
 from pgsub_connect.drift.remembered import Remembered
 from pgsub_connect.follow.session import Session
 from pgsub_connect.follow.session_start import SessionStart
-from pgsub_connect.store.checkpoint import Checkpoint, read_known
+from pgsub_connect.store.checkpoint import read_known
 
 from .adding_case import Case, Run, T
 from .small_world import WorldSource
@@ -112,7 +112,7 @@ class Cuts(Case):
         real = SessionStart.start_replication
 
         def start(it: SessionStart, *words: object) -> None:
-            noted.append(dict(Checkpoint.read(it.confirming.checkpoint).adding))
+            noted.append(dict(read_known(it.confirming.checkpoint.path).adding))
             real(it, *words)  # type: ignore[arg-type]
 
         self.patch(SessionStart, "start_replication", start)

@@ -138,7 +138,6 @@ class Ends(Case):
                 (ended.status, ended.said, ended.is_rejection()),
                 (status, f"pgsub: why {status}", rejected),
             )
-            self.assertEqual((ended.is_full(), ended.is_unopened()), (status == 10, status == 12))
 
     def test_a_store_that_another_program_has_open(self) -> None:
         """What to do is told beside the words of the program."""

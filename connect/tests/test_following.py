@@ -31,7 +31,7 @@ from pgsub_connect.server import connection as connection_module, libpq, login, 
 from pgsub_connect.server.session import Server
 from pgsub_connect.server.transport import Protection
 from pgsub_connect.status.progress import Progress
-from pgsub_connect.store.checkpoint import Checkpoint
+from pgsub_connect.store.checkpoint import Checkpoint, read_known
 from pgsub_connect.store.checkpoint_lines import FOLLOWING
 from pgsub_connect.stream import statuses
 from pgsub_connect.stream.awake import Awake
@@ -161,7 +161,7 @@ class Sessions(Case):
         )
         with open(self.store, encoding="ascii") as file:
             self.assertEqual(file.read(), str(0x108))
-        self.assertEqual(self.checkpoint.read().position, 0x108)
+        self.assertEqual(read_known(self.checkpoint.path).position, 0x108)
 
     def test_keepalives_cost_no_sync_each(self) -> None:
         synced = mock.Mock(wraps=os.fdatasync)
@@ -172,7 +172,7 @@ class Sessions(Case):
         self.run_until(follower, lambda: self.confirmed() == 0x1000 + 1999)
         # (one each time that what waits is passed on, and a few at the beginning and the end)
         self.assertLess(synced.call_count, 6 + (time.monotonic() - began) / statuses.QUIET)
-        self.assertGreaterEqual(self.checkpoint.read().confirmed, 0x1000 + 1999)
+        self.assertGreaterEqual(read_known(self.checkpoint.path).confirmed, 0x1000 + 1999)
 
     def test_a_keepalive_that_asks_is_answered_at_once(self) -> None:
         self.patch(statuses, "QUIET", 30.0)
@@ -268,7 +268,7 @@ class Sessions(Case):
             return self.server.sessions == 2 and self.confirmed() == 0x1000
 
         self.run_until(follower, holds)
-        self.assertEqual(self.checkpoint.read().confirmed, 0x1000)
+        self.assertEqual(read_known(self.checkpoint.path).confirmed, 0x1000)
 
     def test_until(self) -> None:
         for until, end in ((0x104, 0x108), ("now", 0x800)):
@@ -313,7 +313,7 @@ class Sessions(Case):
             follower.watch.remembered.found["publication"].texts,
             {found: About(publication="late", is_missing=True)},
         )
-        self.assertEqual(list(self.checkpoint.read().found), ["publication"])
+        self.assertEqual(list(read_known(self.checkpoint.path).found), ["publication"])
         self.checkpoint.write(True, found={})
         follower = self.follower_again(strict=True)
         with self.assertRaisesRegex(Unfit, "leaves out changes"):
@@ -598,7 +598,7 @@ class Fits(Case):
                             position=position,
                             now=self.server_now(timeline),
                         )
-                    self.assertIn("history", self.checkpoint.read().found)
+                    self.assertIn("history", read_known(self.checkpoint.path).found)
 
     def test_an_older_timeline(self) -> None:
         with self.assertRaises(Unfit):
@@ -607,13 +607,13 @@ class Fits(Case):
     def test_a_standby_that_was_promoted_while_it_was_followed(self) -> None:
         """It has all that it ever sent, also what it sent on its new timeline."""
         self.check(timeline=1, started=1000, position=0x900, now=self.server_now(2, started=1000))
-        self.assertEqual(self.checkpoint.read().found, {})
+        self.assertEqual(read_known(self.checkpoint.path).found, {})
         self.assertIn("promoted while it was followed", self.said[-1])
 
     def test_the_timeline_is_noted_at_each_session(self) -> None:
         self.identity[1] = "4"
         self.connect(self.follower())
-        known = self.checkpoint.read()
+        known = read_known(self.checkpoint.path)
         self.assertEqual((known.timeline, known.started, known.system), (4, 1000, "77"))
 
     def test_a_history_is_accepted_once(self) -> None:
@@ -623,10 +623,13 @@ class Fits(Case):
         self.checkpoint.write(False, phase="following", timeline=1, started=1, position=0x900)
         follower.confirming.position = 0x900
         self.connect(follower)
-        self.assertEqual(self.checkpoint.read().timeline, 2)
+        self.assertEqual(read_known(self.checkpoint.path).timeline, 2)
         text = "the server's commits from 0/500 to 0/900 are missing, and the store has others"
         self.assertEqual(
-            (self.checkpoint.read().found, list(follower.watch.remembered.found["history"].texts)),
+            (
+                read_known(self.checkpoint.path).found,
+                list(follower.watch.remembered.found["history"].texts),
+            ),
             ({"history": "0/900"}, [text]),
         )
         again = "verify --repair, then --accept history again"
@@ -636,7 +639,7 @@ class Fits(Case):
         self.brain.answer("TIMELINE_HISTORY", [["x", "1\t0/500\treason\n2\t0/600\treason"]])
         with self.assertRaisesRegex(Unfit, "changes that the server hasn't"):
             self.connect(follower)
-        self.assertIn("history", self.checkpoint.read().found)
+        self.assertIn("history", read_known(self.checkpoint.path).found)
 
     def test_a_gap_that_is_accepted_is_found(self) -> None:
         """Until it is accepted once more: a strict run goes on meanwhile, and so does the next
@@ -649,13 +652,13 @@ class Fits(Case):
                 fitting = follower.start.fitting
                 fitting.check_start(0x900, 0x500, interruption.never)
                 follower.watch.show()
-                self.assertEqual(self.checkpoint.read().found, {"slot": "0/900"})
+                self.assertEqual(read_known(self.checkpoint.path).found, {"slot": "0/900"})
                 self.assertEqual(self.progress.findings.found, {"slot": text})
                 self.checkpoint.write(False, phase="following")
                 with self.assertRaisesRegex(Unfit, "somebody else moved the slot"):
                     fitting.check_start(0xA00, 0x500, interruption.never)
                 self.follower_alone(accept=kinds, strict=strict).watch.begin()
-                self.assertEqual(self.checkpoint.read().found, {})
+                self.assertEqual(read_known(self.checkpoint.path).found, {})
 
     def test_a_history_that_is_accepted_confirms_nothing_more(self) -> None:
         """What a keepalive has confirmed above the position is of the other history: the new one's
@@ -689,7 +692,7 @@ class Fits(Case):
                     "are missing" if found and strict else "started anew",
                 ):
                     follower.session.connect()
-                known = self.checkpoint.read()
+                known = read_known(self.checkpoint.path)
                 self.assertEqual(
                     (known.timeline, known.confirmed, "history" in known.found),
                     (2, position, found),
@@ -712,7 +715,7 @@ class Fits(Case):
                 self.connect(follower)
                 follower.session.disconnect()
             self.assertEqual(sum("warning: the connection is" in it for it in self.said), warnings)
-            self.assertIs(self.checkpoint.read().encrypted, kept)
+            self.assertIs(read_known(self.checkpoint.path).encrypted, kept)
         with mock.patch.object(transport, "protection_of", return_value=plain), mock.patch.object(
             transport, "OWN", own
         ):
@@ -767,7 +770,7 @@ class Fits(Case):
         self.brain.answer("s.confirmed_flush_lsn", lambda _: looks.pop())
         with self.assertRaisesRegex(Unfit, "somebody else moved the slot"):
             self.connect(self.follower())
-        self.assertIn("slot", self.checkpoint.read().found)
+        self.assertIn("slot", read_known(self.checkpoint.path).found)
         self.assertEqual(self.server.statuses, [])
 
     def test_slots(self) -> None:
@@ -855,17 +858,18 @@ class Fits(Case):
         with self.assertRaisesRegex(ServerError, "no publication pgsub: make it .*") as raised:
             self.connect(self.follower(no_copy=True))
         self.assertTrue(raised.exception.is_lasting())
-        self.assertEqual(self.checkpoint.read().phase, "new")
+        self.assertEqual(read_known(self.checkpoint.path).phase, "new")
         self.brain.answer("FROM pg_catalog.pg_publication WHERE pubname", [[]])
         self.connect(self.follower(no_copy=True))
-        self.assertEqual(self.checkpoint.read().phase, "following")
+        self.assertEqual(read_known(self.checkpoint.path).phase, "following")
 
         """It is known by its OID, where that was noted, and another one by that, too."""
         self.patch(Checkpoint, "lock", lambda *_: None)
         self.brain.answer("FROM pg_catalog.pg_database", [["16384"]])
         self.connect(self.follower())
         self.assertEqual(
-            (Remembered(self.store).database, self.checkpoint.read().database), (None, "shop")
+            (Remembered(self.store).database, read_known(self.checkpoint.path).database),
+            (None, "shop"),
         )
         self.identity[3] = "store"
         follower = self.follower()
@@ -873,7 +877,7 @@ class Fits(Case):
         self.connect(follower)
         self.assertIn("warning: the database shop was renamed: it is store now", self.said)
         self.assertEqual(
-            (follower.watch.remembered.database, self.checkpoint.read().database),
+            (follower.watch.remembered.database, read_known(self.checkpoint.path).database),
             ((16384, "store"), "store"),
         )
         follower.watch.remembered.save()
@@ -891,7 +895,7 @@ class Fits(Case):
         follower.watch.remembered.feed = "/feed"
         follower.watch.remembered.note_database(16384, "shop")
         self.connect(follower)
-        self.assertEqual(self.checkpoint.read().database, "shop")
+        self.assertEqual(read_known(self.checkpoint.path).database, "shop")
 
     def test_a_database_that_was_renamed_before_its_oid_was_noted(self) -> None:
         follower = self.follower_alone()
@@ -933,7 +937,7 @@ class Fits(Case):
             follower.start.fitting.check_server(self.server_now(1), 0x2000000, 0x500)
         (told,) = follower.watch.texts_of("history")
         self.assertRegex(told, "^the server's log ends at 0/1000000, before .*0/2000000: it lost")
-        self.assertEqual(self.checkpoint.read().found, {"history": "0/500"})
+        self.assertEqual(read_known(self.checkpoint.path).found, {"history": "0/500"})
         self.assertEqual(self.progress.findings.found, {"history": told})
         with self.assertRaisesRegex(ServerError, "a standby whose log ends") as raised:
             self.follower_alone().start.fitting.check_server(
@@ -960,7 +964,8 @@ class Fits(Case):
             follower.session.connect()
         self.assertFalse(raised.exception.is_lasting())
         self.assertEqual(
-            (self.checkpoint.read().confirmed, self.checkpoint.read().timeline), (0x900, 2)
+            (read_known(self.checkpoint.path).confirmed, read_known(self.checkpoint.path).timeline),
+            (0x900, 2),
         )
         follower.session.disconnect()
         follower.life.filter.status = b"r" + 4 * (0x500).to_bytes(8, "big")

@@ -23,7 +23,7 @@ from pgsub_connect.server.session import Subscription
 from pgsub_connect.status.files import status_fields
 from pgsub_connect.status.progress import Progress
 from pgsub_connect.status.state import Counted
-from pgsub_connect.store.checkpoint import Checkpoint
+from pgsub_connect.store.checkpoint import Checkpoint, read_known
 from pgsub_connect.store.checkpoint_lines import Known, read_file
 from pgsub_connect.stream.awake import Awake
 from pgsub_connect.stream.common import Common, Tolerance
@@ -104,7 +104,7 @@ class Order(FollowCase):
                 (
                     what,
                     counted.count if counted else 0,
-                    follower.confirming.checkpoint.read().position,
+                    read_known(follower.confirming.checkpoint.path).position,
                 )
             )
 
@@ -186,7 +186,7 @@ class Order(FollowCase):
         )
         self.assertEqual(happened[sent - 1][0], "synced")
         self.assertEqual(
-            (self.checkpoint.read().confirmed, self.counted()), (0x200, Counted(0, 0x108))
+            (read_known(self.checkpoint.path).confirmed, self.counted()), (0x200, Counted(0, 0x108))
         )
 
     def test_what_a_keepalive_confirms_beside_a_commit_waits(self) -> None:
@@ -271,7 +271,7 @@ class Order(FollowCase):
         with self.assertRaises(ServerError):
             follower.confirming.forward([status(0x108)])
         self.assertEqual(
-            (self.counted(), self.checkpoint.read().position), (Counted(0, 0x108), 0x108)
+            (self.counted(), read_known(self.checkpoint.path).position), (Counted(0, 0x108), 0x108)
         )
 
 

@@ -8,7 +8,7 @@ from pgsub_connect.add import adder
 from pgsub_connect.drift.findings import About
 from pgsub_connect.drift.remembered import Remembered
 from pgsub_connect.errors import NoSlot, ServerError, Unconnected
-from pgsub_connect.store.checkpoint import Checkpoint, read_known
+from pgsub_connect.store.checkpoint import read_known
 from pgsub_feed.errors import Passing, Unfit
 
 from .adding_case import OTHER, THIRD, Case, Run, T
@@ -75,7 +75,7 @@ class InTheWay(Case):
         self.world.commit(insert(THIRD, (1, "x")))
         end = self.world.end
         self.assertTrue(run.until(lambda: run.filter.confirmed() >= end))
-        self.assertEqual(Checkpoint.read(run.checkpoint).adding, {T: 0})
+        self.assertEqual(read_known(run.checkpoint.path).adding, {T: 0})
         self.fails("none")
         self.assertTrue(run.until(lambda: not run.remembered.wanted), self.said)
         self.assertTrue(run.until(lambda: self.is_stored(run)))

@@ -8,7 +8,7 @@ import unittest
 from pgsub_connect.drift.remembered import Remembered
 from pgsub_connect.server.session import Subscription
 from pgsub_connect.status.progress import Progress
-from pgsub_connect.store.checkpoint import Checkpoint
+from pgsub_connect.store.checkpoint import Checkpoint, read_known
 from pgsub_connect.stream.common import Common, Tolerance
 from pgsub_connect.stream.transactions import Skipping
 
@@ -86,7 +86,7 @@ class Skips(Case):
         self.assertEqual(
             (
                 self.checkpoint.known.skipped,
-                self.checkpoint.read().skipped,
+                read_known(self.checkpoint.path).skipped,
                 self.progress.findings.skipped,
             ),
             (TEXT, TEXT, TEXT),

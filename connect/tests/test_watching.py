@@ -17,7 +17,7 @@ from pgsub_connect.server.catalog import Catalog
 from pgsub_connect.server.session import Subscription
 from pgsub_connect.status.files import status_fields
 from pgsub_connect.status.progress import Progress
-from pgsub_connect.store.checkpoint import Checkpoint
+from pgsub_connect.store.checkpoint import Checkpoint, read_known
 from pgsub_connect.stream.common import Common, Tolerance
 from pgsub_feed.errors import FILE, Unfit
 from pgsub_feed.interruption import never
@@ -105,7 +105,7 @@ class Found(Case):
             self.compare(self.watch(), a_catalog(T, U, lsn=200))
         self.assertEqual(len(said), 1)
         self.assertIn("found: publication at 0/C8: table public.u (2) joined", said[0])
-        self.assertEqual(self.checkpoint.read().found, {"publication": "0/C8"})
+        self.assertEqual(read_known(self.checkpoint.path).found, {"publication": "0/C8"})
         for _ in range(2):
             with logged() as again:
                 self.compare(self.watch(), a_catalog(T, U, lsn=300))
@@ -120,7 +120,7 @@ class Found(Case):
             self.watch("publication")
         self.assertEqual(["values" in line for line in said], [True])
         self.assertEqual(
-            (list(self.checkpoint.read().found), list(Remembered(self.store).found)),
+            (list(read_known(self.checkpoint.path).found), list(Remembered(self.store).found)),
             (["values"], ["values"]),
         )
         with logged() as said:
@@ -135,13 +135,13 @@ class Found(Case):
         for word in ("gap", "slot", "all"):
             with logged():
                 self.watch().note("slot", 200, "somebody else moved the slot")
-            self.assertEqual(list(self.checkpoint.read().found), ["slot"])
+            self.assertEqual(list(read_known(self.checkpoint.path).found), ["slot"])
             shown = self.progress.findings.found
             self.assertEqual(shown, {"slot": "somebody else moved the slot"})
             with logged() as said:
                 self.watch(word, strict=True)
             self.assertEqual(
-                (said, self.checkpoint.read().found, Remembered(self.store).found),
+                (said, read_known(self.checkpoint.path).found, Remembered(self.store).found),
                 ([], {}, {}),
                 word,
             )
@@ -162,7 +162,7 @@ class Found(Case):
         with logged() as said, self.assertRaisesRegex(Unfit, "names: public.t is table 3 now"):
             watch.tend(False, never, 100)
         self.assertEqual(len(said), 1)
-        self.assertEqual(self.checkpoint.read().found, {"names": "0/C8"})
+        self.assertEqual(read_known(self.checkpoint.path).found, {"names": "0/C8"})
         self.assertEqual(list(Remembered(self.store).found), ["names"])
 
     def test_of_others(self) -> None:
@@ -179,7 +179,9 @@ class Found(Case):
         self.checkpoint.write(True, found={})
         with logged() as said:
             self.watch()
-        self.assertEqual((len(said), self.checkpoint.read().found), (1, {"publication": "0/C8"}))
+        self.assertEqual(
+            (len(said), read_known(self.checkpoint.path).found), (1, {"publication": "0/C8"})
+        )
         self.remembered.remove()
         with logged() as said:
             watch = self.watch()

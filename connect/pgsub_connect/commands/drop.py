@@ -28,7 +28,6 @@ from ..server.connection import Connection
 from ..server.libpq import TICK
 from ..server.publications import drop_publication, oid_of, other_slots
 from ..server.publication_setup import inserts_of
-from ..server import session
 from ..server.session import Subscription, database_oid, is_same_database, of_slot, other_slot
 from ..status.files import STATUS
 from ..store.checkpoint import locked, read_known
@@ -151,8 +150,8 @@ class Dropper:
             "SELECT s.system_identifier, pg_catalog.current_database() FROM pg_catalog.pg_control_system() s"
         )[0]
         oid, noted = database_oid(connection), noted_database(self.remembered)
-        server = session.Server(system or "", 0, 0, database or "", False, database_oid=oid)
-        if system != known.system or not is_same_database(known.database, noted, server):
+        is_same = is_same_database(known.database, noted, database or "", oid)
+        if system != known.system or not is_same:
             text = f"the store follows the database {known.database} of the server {known.system}, and this is {database} of {system}"
             raise Unfit(text)
 

@@ -135,7 +135,8 @@ class Source:
         server = identify(self.replication)
         ours = known.system, known.database, known.timeline
         theirs = server.system, server.database, known.timeline and server.timeline
-        is_same = is_same_database(known.database, Remembered(self.store).database, server)
+        noted, here = Remembered(self.store).database, (server.database, server.database_oid)
+        is_same = is_same_database(known.database, noted, *here)
         if not is_same or (ours[0], ours[2]) != (theirs[0], theirs[2]):
             names = ("the server {}, database {}, timeline {}".format(*it) for it in (ours, theirs))
             raise Unfit("the store follows {}, and this is {}".format(*names))

@@ -81,24 +81,20 @@ class Ended(Exception):
 
 class Items:
     """What the connections have read and nobody has taken yet: of the table that is taken now so
-    many parts at most, and of all others together so many. `reads`: the end of a pipe that can be
-    read whenever there is news."""
+    many parts at most, and of all others together so many. `writers`: how many threads read on;
+    `reads`: the end of a pipe that can be read whenever there is news."""
 
-    def __init__(self, most: int) -> None:
-        self.most, self.lock = most, threading.Condition()
+    def __init__(self, writers: int) -> None:
+        self.writers, self.most, self.lock = writers, AHEAD * writers, threading.Condition()
         self.left: collections.deque[Left] = collections.deque()
         # by the OID of a table its parts; the first table is the one that is taken
         self.parts: dict[int, collections.deque[Part]] = {}
         self.failure: BaseException | None = None
-        self.has_ended, self.writers = False, 0
+        self.has_ended = False
         self.reads, self.wakes = os.pipe()
         os.set_blocking(self.reads, False)
 
     # who takes
-
-    def begin(self, writers: int) -> None:
-        """So many threads are about to begin."""
-        self.writers = writers
 
     def has_news(self) -> bool:
         """Whether something can be taken, or all is over."""
@@ -219,10 +215,9 @@ class Readers:
             threading.Thread(target=self.work, daemon=True)
             for _ in range(max(1, min(reading.jobs, len(self.left))))
         ]
-        self.items = Items(AHEAD * len(self.threads))
+        self.items = Items(len(self.threads))
 
     def begin(self) -> None:
-        self.items.begin(len(self.threads))
         for it in self.threads:
             it.start()
 

@@ -12,7 +12,7 @@ from pgsub_feed.texts import counted
 from ..drift.findings import UNWATCHED
 from ..errors import FilterFault
 from ..stream.awake import Awake, Numbers, Served
-from ..stream.filter_end import BREACH, MISSED, FilterEnded
+from ..stream.filter_end import BREACH, MISSED, SPOOL_FULL, UNOPENED, FilterEnded
 from ..stream.memory_limit import BufferLimits, Kills, limit_text
 from ..stream.room import is_full
 from ..stream.statuses import Confirming
@@ -86,7 +86,7 @@ class FilterLife:
                 if is_unusable(ended.said) and not is_waited_for:
                     self.note_unusable(ended.said)
                     continue
-                if not (is_unusable(ended.said) or ended.is_unopened()):
+                if not (is_unusable(ended.said) or ended.status == UNOPENED):
                     raise
                 self.progress.note_restart(str(ended))
                 why = str(ended) if is_waited_for else IN_USE
@@ -158,7 +158,7 @@ class FilterLife:
     def note_end(self, ended: FilterEnded) -> None:
         """Notes why the filter ended. Raises where the same would come of another try."""
         why = "open transactions were too much at a time"
-        if not (ended.is_full() and self.form.stop_streaming(why)):
+        if not (ended.status == SPOOL_FULL and self.form.stop_streaming(why)):
             largest = self.noting.largest()
             cure = limit_text(ended, self.limits, largest, self.noting.longest)
             if self.feeding and not cure:

@@ -37,7 +37,8 @@ class Fitting:
         that was promoted never had what isn't published behind its last commit."""
         known, remembered = self.checkpoint.known, self.watch.remembered
         slot = self.subscription.slot
-        is_same = is_same_database(known.database, remembered.database, server)
+        here = server.database, server.database_oid
+        is_same = is_same_database(known.database, remembered.database, *here)
         if known.system and ((server.system, slot) != (known.system, known.slot) or not is_same):
             if (server.system, slot) == (known.system, known.slot):
                 other = server.database if server.database != known.database else "a later one"

@@ -131,11 +131,9 @@ def database_oid(connection: Connection) -> int:
     return int(connection.value(query, QUICK) or 0)
 
 
-def is_same_database(name: str, noted: tuple[int, str] | None, server: Server) -> bool:
-    """Whether a database has the name of a checkpoint, or the OID where that was noted."""
-    if noted and noted[0] and server.database_oid:
-        return noted[0] == server.database_oid
-    return name == server.database
+def is_same_database(name: str, noted: tuple[int, str] | None, here: str, oid: int) -> bool:
+    """Whether the database here has the name of a checkpoint, or the OID where that was noted."""
+    return noted[0] == oid if noted and noted[0] and oid else name == here
 
 
 def tell_version_1() -> None:

@@ -180,17 +180,13 @@ def is_copied(asking: Asking, into: str) -> bool:
         return False
     if "error" in answer:
         raise Passing(f"{asking.store}: its follower couldn't copy it: {answer['error']}")
-    check_copied(into)
-    return True
-
-
-def check_copied(into: str) -> None:
-    """Rejects what isn't the follower's copy, but a link to some other file."""
+    # (what isn't the follower's copy, but a link to some other file)
     if os.path.islink(into):
         text = f"{into}: a link in the place of a copy: the store's folder has to be its account's alone"
         raise FileError(text)
     if not os.path.exists(into):
         raise Passing(f"{into}: the copy isn't there")
+    return True
 
 
 def is_followed(store: str) -> bool:

@@ -114,10 +114,6 @@ class Checkpoint:
         self.file = file
         return False
 
-    def read(self) -> Known:
-        """What the file says is known."""
-        return read_file(self.file, self.path).known
-
     def write(self, durably: bool, **fields: Any) -> None:
         """Changes what is known. Where `durably`, the disk has it before this returns."""
         self.put(durably, dataclasses.replace(self.known, **fields), self.counted)

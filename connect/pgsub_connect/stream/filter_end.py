@@ -80,19 +80,11 @@ class FilterEnded(Failure):
         is_rejected = self.status == REJECTED and self.said.startswith(starts)
         return is_rejected or self.said in OF_MESSAGES
 
-    def is_full(self) -> bool:
-        """Whether too much of open transactions was buffered."""
-        return self.status == SPOOL_FULL
-
     def has_told_all(self) -> bool:
         """Whether it has said of all stored commits which changes found no row: also of those right
         before one that it rejected, which it doesn't confirm. One that was killed hasn't, nor one
         whose store, memory or output failed."""
         return self.status >= 0 and self.status not in PASSING
-
-    def is_unopened(self) -> bool:
-        """Whether the store couldn't be opened, as where another process has it open."""
-        return self.status == UNOPENED
 
 
 class Missing(NamedTuple):
