@@ -96,7 +96,7 @@ class VerifyCase(TablesCase):
 
     def verified(self, status: int, **more: Any) -> list[dict[str, Any]]:
         """Compares. Returns what is printed."""
-        comparison = TablesComparison(Subscription(), self.into, **more)
+        comparison = TablesComparison(Subscription(), more.pop("store", ""), path=self.into, **more)
 
         def sums(queries: Any) -> str:
             self.server.answer("SUMS", self.server.sums(queries.plan))
@@ -447,17 +447,17 @@ class Server(VerifyCase):
             (str(self.path / "confirmed"), "has no tables that follow a feed"),
         ):
             with self.assertRaisesRegex(FileError, text):
-                tables_file.compare_tables(TablesComparison(Subscription(), path), never)
+                tables_file.compare_tables(TablesComparison(Subscription(), "", path=path), never)
 
     def test_ended(self) -> None:
         with mock.patch.object(
             tables_file, "with_server", side_effect=Stopped
         ), self.assertRaisesRegex(Passing, "ended before"):
-            tables_file.compare_tables(TablesComparison(Subscription(), self.into), never)
+            tables_file.compare_tables(TablesComparison(Subscription(), "", path=self.into), never)
         with mock.patch.object(
             tables_file, "with_server", side_effect=sqlite3.DatabaseError("x")
         ), self.assertRaisesRegex(FileError, "rows.db: x"):
-            tables_file.compare_tables(TablesComparison(Subscription(), self.into), never)
+            tables_file.compare_tables(TablesComparison(Subscription(), "", path=self.into), never)
 
 
 class Files(VerifyCase):

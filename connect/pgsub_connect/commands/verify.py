@@ -59,8 +59,8 @@ class Options(StoreOptions):
     )
 
     def tables_comparison(self) -> TablesComparison:
-        files, how = (self.tables, self.other, self.store, self.feed), (self.digests, self.table)
-        return TablesComparison(self.subscription(), *files, *how, self.hold, self.show)
+        more = self.tables, self.other, self.feed, self.digests, self.table
+        return TablesComparison(self.subscription(), self.store, self.hold, self.show, *more)
 
 
 def check_options(parser: argparse.ArgumentParser, options: Options) -> Options:

@@ -111,8 +111,8 @@ TRIES, PAUSE = 3, 2.0
 
 @dataclasses.dataclass(frozen=True)
 class StoreComparison:
-    """Which store is compared with which server. `hold`: for how many seconds the stream may be
-    held; `show`: how many keys that differ are printed."""
+    """Which store is compared with which server. `hold`: for how many seconds a slot is waited for,
+    and the stream may be held; `show`: how many keys that differ are printed."""
 
     subscription: Subscription
     store: str

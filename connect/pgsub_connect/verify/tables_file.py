@@ -38,31 +38,26 @@ from ..copy.source import Source, chosen
 from ..drift.remembered import Remembered
 from ..server.catalog import Table
 from ..server.publication_setup import names_of
-from ..server.session import Subscription
 from ..store.checkpoint import read_known
 from ..store.checkpoint_lines import FOLLOWING, Known
 from .comparison import DIFFERENT, EQUAL, Choose, Compared, Verifier, settled, tell_left
 from .digests import Plan, Sums, chunks_for
 from .sides import Row, Sides
+from .store import StoreComparison
 from .view import View, check_tables
 
 
 @dataclasses.dataclass(frozen=True)
-class TablesComparison:
-    """Which tables are compared: those of a file with the server of `subscription`, or those of
-    another file. `store`: whose publications are meant; `feed`: what the file follows, or "";
-    `digests`: by those that are kept; `chosen`: the named tables; `hold`: for how many seconds a
-    slot is waited for; `show`: how many keys that differ are printed."""
+class TablesComparison(StoreComparison):
+    """Which tables are compared: those of a file with the server, or those of another file.
+    `store`: whose publications are meant; `feed`: what the file follows, or ""; `digests`: by those
+    that are kept; `chosen`: the named tables."""
 
-    subscription: Subscription
-    path: str
+    path: str = ""
     other: str = ""
-    store: str = ""
     feed: str = ""
     digests: bool = False
     chosen: Sequence[str] = ()
-    hold: float = 10.0
-    show: int = 20
 
 
 class Files(Sides):
