@@ -171,8 +171,6 @@ class Progress:
 class Recorder(Worker):
     """Records one session without a filter, and keeps the server content meanwhile."""
 
-    connection: Connection | None
-
     def __init__(
         self, subscription: session.Subscription, settings: RecordSettings, recording: Recording
     ) -> None:
@@ -181,7 +179,7 @@ class Recorder(Worker):
         self.until = settings.until if isinstance(settings.until, int) else None
         self.progress = Progress()
         self.last_status = 0.0
-        self.connection = None
+        self.connection: Connection | None = None
 
     def connect(self) -> Connection:
         """Connects, and looks for what the server's version hasn't got."""

@@ -60,14 +60,13 @@ class ProcessBeside(threading.Thread):
     writes; `head`: what goes before its lines in the log; `environment`: what it has beside what
     each has; `wake` has the main loop look what it has told."""
 
-    child: subprocess.Popen[bytes] | None
     environment: Mapping[str, str] = {}
 
     def __init__(self, name: str, head: str, words: Sequence[str], wake: Check = never) -> None:
         super().__init__(daemon=True, name=name)
         self.head, self.wake = head, wake
         self.words = [sys.executable, "-c", CODE, *words, "--while-input"]
-        self.child = None
+        self.child: subprocess.Popen[bytes] | None = None
         self.lock, self.ended = threading.Lock(), threading.Event()
         # the LSN that it has told, and the LSNs at which it is to tell its own
         self.at, self.asked = 0, set[int]()

@@ -56,15 +56,13 @@ class SlotWarning:
 class Asker(threading.Thread):
     """Asks, on a connection of its own. An answer may take as long as a connection is tried."""
 
-    connection: Connection | None
-
     def __init__(self, subscription: Subscription, is_shown: bool, progress: Progress) -> None:
         super().__init__(daemon=True)
         self.subscription, self.progress = subscription, progress
         self.interval = SHOWN if is_shown else UNSHOWN
         self.ended = threading.Event()
         self.warning = SlotWarning(subscription.slot)
-        self.connection = None
+        self.connection: Connection | None = None
         self.most = self.started = 0
 
     def run(self) -> None:

@@ -21,8 +21,6 @@ LAST = 5.0
 class Session:
     """The session that is open, if any."""
 
-    connection: Connection | None
-
     def __init__(self, start: SessionStart, delay: Delay) -> None:
         self.start, self.delay, self.recording = start, delay, start.recording
         self.life, self.schedule, self.ending = start.life, start.schedule, start.ending
@@ -30,7 +28,7 @@ class Session:
         self.standing, life = start.requests.upkeep.standing, start.life
         self.filter, self.confirming, self.noting = life.filter, life.confirming, life.noting
         self.progress = life.progress
-        self.connection = None
+        self.connection: Connection | None = None
         # for how long nothing has come, as far as it was waited for
         self.silent = 0.0
 

@@ -43,7 +43,7 @@ def leaves_of(connection: Connection, roots: list[int]) -> dict[int, Leaves]:
         return {}
     rows = connection.rows(
         "WITH RECURSIVE t (root, oid) AS ("
-        f" SELECT c.oid, c.oid FROM pg_catalog.pg_class c WHERE c.oid IN ({', '.join(map(str, roots))})"
+        f" SELECT c.oid, c.oid FROM pg_catalog.pg_class c WHERE c.oid IN ({listed_oids(roots)})"
         " UNION SELECT t.root, i.inhrelid FROM t JOIN pg_catalog.pg_inherits i ON i.inhparent = t.oid)"
         " SELECT t.root, c.oid, n.nspname, c.relname, c.relkind, c.relpersistence FROM t JOIN pg_catalog.pg_class c ON c.oid = t.oid"
         " JOIN pg_catalog.pg_namespace n ON n.oid = c.relnamespace WHERE c.relkind <> 'p' ORDER BY 1, 2"
@@ -67,10 +67,9 @@ def below_roots(connection: Connection, oids: Iterable[int]) -> set[int]:
     known = set(oids)
     if not known or connection.version() < 130000:
         return set()
-    texts = ", ".join(map(str, sorted(known)))
     rows = connection.rows(
         "SELECT c.oid, a.relid::pg_catalog.oid FROM pg_catalog.pg_class c, LATERAL pg_catalog.pg_partition_ancestors(c.oid) a"
-        f" WHERE c.oid IN ({texts}) AND c.relispartition AND a.relid::pg_catalog.oid <> c.oid"
+        f" WHERE c.oid IN ({listed_oids(sorted(known))}) AND c.relispartition AND a.relid::pg_catalog.oid <> c.oid"
     )
     return {int(oid or 0) for oid, above in rows if int(above or 0) in known}
 
@@ -230,7 +229,7 @@ def listed_above(connection: Connection, name: str, oids: list[int]) -> list[Lis
         f"SELECT DISTINCT r.prrelid, n.nspname, c.relname, {more} FROM pg_catalog.pg_publication_rel r"
         f" JOIN {tree_of(connection, listed)} t ON t.relid = r.prrelid"
         " JOIN pg_catalog.pg_class c ON c.oid = r.prrelid JOIN pg_catalog.pg_namespace n ON n.oid = c.relnamespace"
-        f" WHERE r.prpubid = {oid_of(connection, name)} AND t.part IN ({', '.join(map(str, oids))}) ORDER BY 2, 3"
+        f" WHERE r.prpubid = {oid_of(connection, name)} AND t.part IN ({listed_oids(oids)}) ORDER BY 2, 3"
     )
     found = []
     for _, namespace, table, listing, row_filter in rows:
