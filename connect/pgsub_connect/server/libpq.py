@@ -96,10 +96,8 @@ class Rows:
         self.taken += ROW + VALUE * width
         self.rows.append([self.text(it) for it in values_of(result, width)])
         if self.taken > MOST:
-            text = (
-                f"the server's answer is longer than {MOST >> 20} MB, after {len(self.rows)} rows"
-            )
-            raise WrongAnswer(f"{text}: it is read no further")
+            text = f"the server's answer is longer than {MOST >> 20} MB"
+            raise WrongAnswer(f"{text}, after {len(self.rows)} rows: it is read no further")
 
     def text(self, value: bytes | None) -> str | None:
         if value is None:

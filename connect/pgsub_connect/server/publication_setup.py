@@ -191,9 +191,8 @@ class Maker:
         listed = publications.listed_above(connection, name, list(keyless))
         if not listed:
             return keyless
-        count, names = len(publications.content_of(connection, name)), names_of(
-            [it.text for it in listed]
-        )
+        count = len(publications.content_of(connection, name))
+        names = names_of([it.text for it in listed])
         self.drop_tables(name, listed)
         if self.wanted.keyless == "inserts":
             second = inserts_of(name)
@@ -271,11 +270,8 @@ class Maker:
         except ServerError as error:
             text = f"the publication {name} is there, and --table can't be compared with it: {error}. Leave --table out"
             raise ServerError(text, error.sqlstate and REFUSED) from None
-        asked, keyless, left_out = (
-            publications.content_of(connection, trial),
-            self.keyless_in(trial),
-            set[str](),
-        )
+        asked, left_out = publications.content_of(connection, trial), set[str]()
+        keyless = self.keyless_in(trial)
         if keyless and (listed := publications.listed_above(connection, trial, list(keyless))):
             self.drop_tables(trial, listed)
             left_out = asked - publications.content_of(connection, trial)

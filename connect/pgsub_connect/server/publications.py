@@ -210,9 +210,8 @@ class Listed(NamedTuple):
 
 
 def has_publication(connection: Connection, name: str) -> bool:
-    return bool(
-        connection.rows(f"SELECT FROM pg_catalog.pg_publication WHERE pubname = {literal(name)}")
-    )
+    query = f"SELECT FROM pg_catalog.pg_publication WHERE pubname = {literal(name)}"
+    return bool(connection.rows(query))
 
 
 @understood("a publication")
@@ -234,9 +233,8 @@ def listed_above(connection: Connection, name: str, oids: list[int]) -> list[Lis
     found = []
     for _, namespace, table, listing, row_filter in rows:
         sql = f"{identifier(namespace or '')}.{identifier(table or '')}"
-        more = (f" ({listing})" if listing else "") + (
-            f" WHERE ({row_filter})" if row_filter else ""
-        )
+        more = f" ({listing})" if listing else ""
+        more += f" WHERE ({row_filter})" if row_filter else ""
         found.append(Listed(f"{namespace}.{table}", sql, sql + more))
     return found
 
