@@ -161,7 +161,7 @@ def form_of(options: Options, chosen: Chosen, check: Check) -> Format:
         envelopes = Envelopes(settings_of(options), known, check, types)
         return Debezium(chosen, envelopes, options.keys)
     command = Command(options.on_truncate, check) if options.on_truncate else None
-    return Bulk(chosen, options.truncated, known, check, command)
+    return Bulk(chosen, options.truncated, known, check=check, command=command)
 
 
 def run(options: Options, check: Check) -> int:

@@ -78,8 +78,9 @@ class Bulk(Objects):
         chosen: Chosen,
         truncated: int | None = None,
         store: KnownTables | None = None,
-        check: Check = never,
+        *,
         command: Command | None = None,
+        check: Check = never,
     ) -> None:
         super().__init__(chosen)
         self.truncated, self.store, self.check = truncated, store, check
