@@ -39,6 +39,8 @@ pub const MOST_ENDED: usize = 256;
 ///
 /// The time of a commit is compared with that of the first commit that was appended to the segment
 /// since the feed was opened, of those whose time is known.
+///
+/// Where it stopped since it lost messages, it keeps the cause, whatever it forgets.
 #[derive(Drop)]
 pub struct Feed<F: Folder + Drop> {
     alloc: Global,
@@ -51,6 +53,7 @@ pub struct Feed<F: Folder + Drop> {
     names: Names,
     limits: SegmentLimits,
     hearing: Hearing,
+    cause: Option<MessageFault>,
 }
 
 /// The first time that is known, else that of this commit.
@@ -97,6 +100,7 @@ impl<F: Folder + Drop> Feed<F> {
             names,
             limits,
             hearing: Hearing::new(alloc),
+            cause: None,
         }
     }
 
@@ -405,6 +409,7 @@ impl<F: Folder + Drop> Ledger for Feed<F> {
         };
         if message.is_streamed {
             self.hearing.lose(MessageFault::Streamed);
+            self.cause = Some(MessageFault::Streamed);
             self.segment.stop();
             return;
         }
@@ -473,6 +478,7 @@ impl<F: Folder + Drop> Ledger for Feed<F> {
         match self.write(commit, images) {
             Ok(()) => Ok(()),
             Err(fault) => {
+                self.cause = self.hearing.lost();
                 self.segment.stop();
                 Err(fault)
             }
@@ -517,7 +523,7 @@ impl<F: Folder + Drop> Ledger for Feed<F> {
     }
 
     fn cause(&self) -> Option<&str> {
-        self.hearing.cause()
+        self.cause?.text()
     }
 
     ghost cuts = { λ old new p told later opened kept ends lasting above. cut_ledger F.File.seen

@@ -21,7 +21,6 @@ pub(crate) struct Hearing {
     messages: Vec<Heard>,
     bytes: u64,
     lost: Option<MessageFault>,
-    cause: Option<MessageFault>,
 }
 
 /// So many bytes, and those of a message's prefix and content.
@@ -45,7 +44,6 @@ impl Hearing {
             messages: Vec::new(alloc),
             bytes: 0,
             lost: None,
-            cause: None,
         }
     }
 
@@ -70,9 +68,11 @@ impl Hearing {
         }
     }
 
-    /// The last reason why something was lost, as a text for the operator.
-    pub(crate) fn cause(&self) -> Option<&str> {
-        self.cause?.text()
+    /// Why something was lost, if it was.
+    pub(crate) fn lost(&self) -> Option<MessageFault>
+        ensures { result ≡ self.now.lost }
+    {
+        self.lost
     }
 
     /// Drops what was heard.
@@ -95,7 +95,6 @@ impl Hearing {
     {
         self.forget();
         self.lost = Some(fault);
-        self.cause = Some(fault);
     }
 
     /// Keeps a message behind the others.

@@ -7,6 +7,8 @@
 #[cfg(test)]
 mod commits;
 #[cfg(test)]
+mod feeds;
+#[cfg(test)]
 mod folders;
 #[cfg(test)]
 mod messages;

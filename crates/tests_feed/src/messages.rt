@@ -1,9 +1,10 @@
 //! Messages that a feed in memory tells with a commit, and those for which it rejects the commit.
 
 use crate::commits::append_at;
-use crate::folders::{MemoryFolder, Stop};
+use crate::feeds::{open, text_of};
+use crate::folders::MemoryFolder;
 use pgapply::{LogicalMessage, StoreFault};
-use pgfeed::{Feed, Folder, Origin, SegmentLimits};
+use pgfeed::Feed;
 use pgledger::Ledger;
 use pglsn::Lsn;
 use std::process::Abort;
@@ -70,24 +71,6 @@ static ROWS: [Row; 9] = [
     },
 ];
 
-fn open(rt: &(impl Abort + AllocGlobal), messages: Option<u64>) -> Feed<MemoryFolder> {
-    let limits = SegmentLimits {
-        bytes: u64::MAX,
-        micros: u64::MAX,
-        messages,
-    };
-    let origin = Origin {
-        system: "7",
-        database: "d",
-        slot: "s",
-    };
-    let folder = MemoryFolder::of(rt.alloc(), Vec::new(rt.alloc()), Stop::Never);
-    match Feed::open(rt.alloc(), folder, &origin, limits, Lsn(0x100)) {
-        Ok(feed) => feed,
-        Err(_) => panic!(rt; "no feed"),
-    }
-}
-
 fn hear(feed: &mut Feed<MemoryFolder>, heard: &[Message]) {
     for (prefix, content, is_streamed) in heard {
         feed.hear(&LogicalMessage {
@@ -96,17 +79,6 @@ fn hear(feed: &mut Feed<MemoryFolder>, heard: &[Message]) {
             content,
             is_streamed: *is_streamed,
         });
-    }
-}
-
-/// The text of a feed's only segment.
-fn text_of(rt: &(impl Abort + AllocGlobal), feed: Feed<MemoryFolder>) -> String {
-    let (mut folder, file) = feed.into_parts();
-    folder.close(Lsn(0x100), file);
-    let mut segments = folder.into_segments();
-    match segments.pop() {
-        Some((_base, bytes)) => String::from_utf8(bytes).expect(rt, "a text"),
-        None => panic!(rt; "no segment"),
     }
 }
 
@@ -133,6 +105,8 @@ fn try_row(rt: &(impl Abort + AllocGlobal), row: &Row) {
         Err(cause) => {
             assert!(rt; appended == Err(StoreFault::Refused));
             assert!(rt; feed.is_stuck());
+            // the cause stays, since the feed is stuck
+            feed.forget();
             assert_eq!(rt; feed.cause(), Some(cause));
         }
     }
@@ -153,4 +127,15 @@ fn tells_messages_once(rt: HostRuntime) {
     append_at(&rt, &mut feed, Lsn(0x200)).expect(&rt, "a commit");
     append_at(&rt, &mut feed, Lsn(0x300)).expect(&rt, "a commit");
     assert_eq!(&rt; told_last(text_of(&rt, feed).as_str()), Some(""));
+}
+
+// The feed stops for another reason than for messages of a commit that it had before.
+#[test]
+fn tells_no_cause_of_what_it_forgot(rt: HostRuntime) {
+    let mut feed = open(&rt, Some(2));
+    hear(&mut feed, &[("p", b"xy", false)]);
+    feed.forget();
+    assert!(&rt; append_at(&rt, &mut feed, Lsn(0x100)) == Err(StoreFault::Refused));
+    assert!(&rt; feed.is_stuck());
+    assert_eq!(&rt; feed.cause(), None);
 }
