@@ -17,7 +17,8 @@ use Rattle.pgfeed.specs.declared.told.Told.{Told}
 use Rattle.pgfeed.specs.Fits.{FitsEntry, FitsLine}
 use Rattle.pgcrc.specs.Crc.{crc32}
 use Rattle.pgfeed.specs.Texts.{body_text, commit_told, crc_text, entry_body, entry_crc, entry_text}
-use Rattle.pgfeed.specs.Texts.{line_of, line_text, line_told, messages_text, padded, told_after}
+use Rattle.pgfeed.specs.Texts.{fresh_text, image_line, line_of, line_text, line_told, messages_text}
+use Rattle.pgfeed.specs.Texts.{named, padded, place, told_after}
 
 -- the first line
 next_line : (defs : List RelationDef) (entry : ℕ × Op) (entries : List (ℕ × Op)) (image : Image) (images : List Image)
@@ -74,6 +75,15 @@ told_step all told told' text next start n m line here more so is adds tells cou
     ap (λ t. told_after t (start + length next) m more) tells ∙ ap (λ k. told_after after k m more) offset
     ∙ ap (λ k. told_after after (at + length own) k more) one ∙ sym (told_next told at n line more)
     ∙ ap (told_after told at n) (sym is) ∙ so
+
+-- the definition, unless it is told, and then the change
+pub line_adds : (text front next : List ℕ) (told : List Told) (at n offset : ℕ) (def : RelationDef) (image : Image)
+    → front ≡ text ++ fresh_text (place told def) def → next ≡ front ++ image_line offset n image
+    → offset ≡ named (place told def) at → next ≡ text ++ line_text told at n (line_of def image)
+line_adds text front next told at n offset def image fronts adds names =
+    adds ∙ ap (λ xs. xs ++ image_line offset n image) fronts
+    ∙ append_assoc text (fresh_text (place told def) def) (image_line offset n image)
+    ∙ ap (λ k. text ++ (fresh_text (place told def) def ++ image_line k n image)) names
 
 -- one change more, of which the first is left
 pub change_step : (all text next : List ℕ) (told told' : List Told) (start at : ℕ) (defs : List RelationDef) (n place m : ℕ)

@@ -41,3 +41,9 @@ one_definition a b h =
     let columns : a.columns ≡ b.columns =
     (slice_eq-Decides column_Decides a.columns b.columns (pointwise same_column a.columns b.columns) refl).0 (second_so _ _ r₃) in
     λ i. record { oid = oid i; namespace = namespace i; name = name i; letter = letter i; columns = columns i }
+
+pub definition_itself : (a : RelationDef) → same_definition a a ≡ true
+definition_itself a =
+    both _ _ (nat_eq_equiv.refl a.oid) (both _ _ ((bytes_eq-Decides a.namespace a.namespace).1 refl)
+    (both _ _ ((bytes_eq-Decides a.name a.name).1 refl) (both _ _ (nat_eq_equiv.refl a.letter)
+    ((slice_eq-Decides column_Decides a.columns a.columns (pointwise same_column a.columns a.columns) refl).1 refl))))

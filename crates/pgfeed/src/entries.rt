@@ -1,6 +1,6 @@
 //! The text of an entry.
 
-ghost use Rattle.std.specs.Prelude.{◌≡◌, ◌++◌, ◌+◌, IfOk, OnOk, Some, length, slice_get};
+ghost use Rattle.std.specs.Prelude.{◌≡◌, ◌++◌, ◌+◌, IfOk, IfSome, OnOk, Some, length, slice_get};
 ghost use Rattle.std.specs.Prelude.{string_bytes};
 ghost use Rattle.std.specs.List.{AllByRecursion};
 ghost use Rattle.pgcrc.specs.Crc.{crc32};
@@ -16,7 +16,7 @@ use crate::changes::{Which, push_image};
 use crate::heads::{COMMIT_SIZE, commit_line, commit_told};
 use crate::messages::messages_text;
 use crate::tables::push_table;
-use crate::told::{Told, place};
+use crate::told::{Last, Told, known, place};
 use pgapply::{ChangeRefs, Commit, Op};
 use pgcrc::Crc32;
 use pgledger::{Heard, Image};
@@ -39,15 +39,17 @@ pub(crate) struct Piece {
     pub(crate) told: Vec<Told>,
 }
 
-/// The offset at which the definition of a change stands. One that isn't told is appended, at this
-/// offset of the segment.
+/// The offset at which the definition of a change stands, which may be known. One that isn't told
+/// is appended, at this offset of the segment.
 fn tell(
     alloc: Global,
     told: &[Told],
     at: usize,
+    known: Option<usize>,
     def: &RelationDef,
     piece: &mut Piece,
 ) -> Result<usize, AllocError>
+    requires { IfSome known (λ it. place (told.now ++ piece.old.told.items) def.now ≡ Some it) }
     ensures named { IfOk result (λ it. it ≡ named (place (told.now ++ piece.old.told.items)
         def.now) at) }
     ensures text { OnOk result (string_bytes piece.new.text ≡ string_bytes piece.old.text
@@ -55,33 +57,18 @@ fn tell(
     ensures told { OnOk result (told.now ++ piece.new.told.items
         ≡ told_with (told.now ++ piece.old.told.items)
         (place (told.now ++ piece.old.told.items) def.now) def.now at) }
+    ensures stands { IfOk result (λ it. place (told.now ++ piece.new.told.items) def.now
+        ≡ Some it) }
 {
+    if let Some(place) = known {
+        return Ok(place);
+    }
     if let Some(place) = place(told, &piece.told, def) {
         return Ok(place);
     }
     push_table(alloc, def, &mut piece.text)?;
     piece.told.push(Told::of(alloc, def, at)?)?;
     Ok(at)
-}
-
-/// Appends the lines of a change, which begin at this offset of the segment: the definition of its
-/// relation, where that isn't told, and then its own.
-fn push_line(
-    alloc: Global,
-    told: &[Told],
-    at: usize,
-    n: usize,
-    def: &RelationDef,
-    image: &Image<'_>,
-    piece: &mut Piece,
-) -> Result<(), AllocError>
-    ensures text { OnOk result (string_bytes piece.new.text ≡ string_bytes piece.old.text
-        ++ line_text (told.now ++ piece.old.told.items) at n (line_of def.now image.now)) }
-    ensures told { OnOk result (told.now ++ piece.new.told.items
-        ≡ line_told (told.now ++ piece.old.told.items) at (line_of def.now image.now)) }
-{
-    let at = tell(alloc, told, at, def, piece)?;
-    push_image(alloc, Which { at, n }, image, &mut piece.text)
 }
 
 /// The lines of a commit, which begin at this offset of the segment: its messages, and then its
@@ -107,12 +94,20 @@ fn body(
         text: messages_text(alloc, messages)?,
         told: Vec::new(alloc),
     };
+    let mut last = None;
     for (n, (entry, image)) in entries.reborrow().zip(images).enumerate() {
         let def = defined(definitions, &entry);
         let Some(at) = start.checked_add(piece.text.len()) else {
             return Err(AllocError);
         };
-        push_line(alloc, told, at, n, def, image, &mut piece)?;
+        // changes of one table often follow each other
+        let known = known(last, entry.0);
+        let offset = tell(alloc, told, at, known, def, &mut piece)?;
+        last = Some(Last {
+            number: entry.0,
+            offset,
+        });
+        push_image(alloc, Which { at: offset, n }, image, &mut piece.text)?;
     }
     Ok(piece)
 }

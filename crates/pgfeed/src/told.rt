@@ -2,7 +2,7 @@
 //!
 //! PostgreSQL documentation, Logical Replication Message Formats, Relation.
 
-ghost use Rattle.std.specs.Prelude.{◌≡◌, ◌++◌, IfOk, OnErr, OnOk};
+ghost use Rattle.std.specs.Prelude.{◌≡◌, ◌++◌, IfOk, IfSome, OnErr, OnOk, Some};
 ghost use Rattle.pgfeed.specs.Next.{Remembers};
 ghost use Rattle.pgfeed.specs.Texts.{if_there, newest, place, told_at};
 
@@ -67,6 +67,25 @@ fn if_there(found: Option<Option<usize>>) -> Option<usize>
     match found {
         Some(place) => place,
         None => None,
+    }
+}
+
+/// The definition of the last change: its number in the commit, and where it stands.
+#[derive(Clone, Copy)]
+pub(crate) struct Last {
+    pub(crate) number: usize,
+    pub(crate) offset: usize,
+}
+
+/// Where the definition with a number stands, if it is that of the last change.
+pub(crate) fn known(last: Option<Last>, number: usize) -> Option<usize>
+    ensures { IfSome result (λ it. last ≡ Some (record { number = number; offset = it })) }
+{
+    let last = last?;
+    if last.number == number {
+        Some(last.offset)
+    } else {
+        None
     }
 }
 

@@ -11,8 +11,8 @@ fn text(rt: &(impl Abort + AllocGlobal), text: &str) -> Text {
     Text::from_string(String::from_str(rt.alloc(), text).expect(rt, "a text"))
 }
 
-/// The table t, without a key and of one column with this type modifier.
-fn definition(rt: &(impl Abort + AllocGlobal), modifier: i32) -> RelationDef {
+/// A table t with this OID, without a key and of one column with this type modifier.
+fn definition(rt: &(impl Abort + AllocGlobal), oid: u32, modifier: i32) -> RelationDef {
     let column = Column {
         key: false,
         name: text(rt, "v"),
@@ -22,7 +22,7 @@ fn definition(rt: &(impl Abort + AllocGlobal), modifier: i32) -> RelationDef {
     let mut columns = Vec::new(rt.alloc());
     columns.push(column).expect(rt, "a column");
     RelationDef {
-        oid: 16384,
+        oid,
         namespace: text(rt, "public"),
         name: text(rt, "t"),
         letter: b'f',
@@ -37,13 +37,44 @@ fn row(rt: &(impl Abort + AllocGlobal)) -> Tuple {
     Tuple::from_cells(cells).expect(rt, "a tuple")
 }
 
-/// A work that has the definition, and no change.
-fn work_of_t<'a>(rt: &(impl Abort + AllocGlobal), modifier: i32) -> Work<'a> {
+/// A work that has these definitions, told by their OIDs and type modifiers, and no change.
+fn work_of<'a>(rt: &(impl Abort + AllocGlobal), definitions: &[(u32, i32)]) -> Work<'a> {
     let mut work = Work::new(rt.alloc());
-    let def = definition(rt, modifier);
-    assert!(rt; def.spellable());
-    let _number = work.define(def).expect(rt, "a definition");
+    for (oid, modifier) in definitions {
+        let def = definition(rt, *oid, *modifier);
+        assert!(rt; def.spellable());
+        let _number = work.define(def).expect(rt, "a definition");
+    }
     work
+}
+
+/// Appends a commit with these definitions, and with an Insert for each of these numbers of them.
+pub(crate) fn append_inserts<L: Ledger>(
+    rt: &(impl Abort + AllocGlobal),
+    ledger: &mut L,
+    end: Lsn,
+    definitions: &[(u32, i32)],
+    numbers: &[usize],
+) -> Result<(), StoreFault> {
+    let row = row(rt);
+    let mut work = work_of(rt, definitions);
+    let mut images = Vec::new(rt.alloc());
+    for number in numbers {
+        assert!(rt; *number < work.definitions().len());
+        let row = row.borrowed();
+        let image = Image::Inserted {
+            row: row.reborrow(),
+        };
+        work.change(*number, Op::Insert { row })
+            .expect(rt, "a change");
+        images.push(image).expect(rt, "an image");
+    }
+    let commit = Commit {
+        end,
+        about: None,
+        work: &work,
+    };
+    ledger.append(&commit, &images)
 }
 
 /// Appends a commit of one Insert. Since the table is another one at each LSN, the commit tells its
@@ -53,21 +84,6 @@ pub(crate) fn append_at<L: Ledger>(
     ledger: &mut L,
     end: Lsn,
 ) -> Result<(), StoreFault> {
-    let row = row(rt);
     let modifier = i32::try_from(end.0 / 0x100).expect(rt, "a modifier");
-    let mut work = work_of_t(rt, modifier);
-    assert!(rt; !work.definitions().is_empty());
-    let op = Op::Insert {
-        row: row.borrowed(),
-    };
-    work.change(0, op).expect(rt, "a change");
-    let image = Image::Inserted {
-        row: row.borrowed(),
-    };
-    let commit = Commit {
-        end,
-        about: None,
-        work: &work,
-    };
-    ledger.append(&commit, &[image])
+    append_inserts(rt, ledger, end, &[(16384, modifier)], &[0])
 }

@@ -2,10 +2,13 @@
 //!
 //! - What a folder has after a stop at any call, and opening it again.
 //! - Which messages a commit tells, and for which it is rejected.
+//! - Where the definitions of changes stand.
 #![tactic(auto)]
 
 #[cfg(test)]
 mod commits;
+#[cfg(test)]
+mod definitions;
 #[cfg(test)]
 mod feeds;
 #[cfg(test)]

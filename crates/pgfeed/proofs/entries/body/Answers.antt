@@ -1,25 +1,33 @@
-use Rattle.std.proofs.Common.{◌≡◌, ◌+◌, ◌⊎◌, inl, inr, arith, string_bytes, subst, ap, length}
+use Rattle.std.proofs.Common.{◌≡◌, ◌++◌, ◌+◌, ◌⊎◌, inl, inr, arith, string_bytes, subst, ap, length}
 use Rattle.std.specs.List.{AllByRecursion}
 use Rattle.pgapply.specs.Works.{IsNumbered}
 use Rattle.std.specs.Slice.Iter.{iter_rest}
 use Rattle.std.specs.Iterator.Adapters.{enumerate_source, zip_first, zip_second}
-use Rattle.pgfeed.proofs.Bodies.{all_text, all_told, change_step, change_told}
+use Rattle.pgfeed.proofs.Bodies.{all_text, all_told, change_step, change_told, line_adds}
+use Rattle.pgfeed.proofs.Places.{known_stands, now_stands}
 use Rattle.pgfeed.proofs.entries.body.Goals as goal
 
 pub loop-n-preserved : goal.loop-n-preserved
 loop-n-preserved c =
     let steps = c.in-Some.ensures.steps in
     let numbered = subst (AllByRecursion (IsNumbered c.args.definitions.now)) steps.0.0 c.loop-n.invariant.numbered in
-    let done = c.in_ok-push_line.ensures in
+    let told = c.in_ok-offset.ensures in
+    let text = line_adds (string_bytes c.loop-n.piece.text) _ _ (c.args.told.now ++ c.loop-n.piece.told.items) c.in-Some-checked_add.at _ _
+    c.defined-def.result.now _ told.text c.in_ok-push_image.ensures told.named in
     let offset : c.in-Some-checked_add.at ≡ c.args.start + length (string_bytes c.loop-n.piece.text) =
     omega (arith, c.in-Some-checked_add.ensures, c.len.ensures) in
     record {
       text = change_step _ _ _ _ _ _ _ _ _ _ _ _ _ _ _ _ _ _ c.loop-n.invariant.text steps.0.0 steps.0.1 c.defined-def.ensures offset
-          done.text done.told steps.1 steps.2;
+          text told.told steps.1 steps.2;
       told = change_told _ _ _ _ _ _ _ _ _ _ _ _ _ _ _ _ _ _ c.loop-n.invariant.told steps.0.0 steps.0.1 c.defined-def.ensures offset
-          done.text done.told steps.1 steps.2;
+          text told.told steps.1 steps.2;
+      last = now_stands c.args.definitions.now (c.args.told.now ++ c.tell.new.piece.told.items) _ _ _ c.defined-def.ensures told.stands;
       numbered = numbered.1;
     }
+
+pub tell-requires : goal.tell-requires
+tell-requires c =
+    known_stands c.args.definitions.now (c.args.told.now ++ c.loop-n.piece.told.items) _ _ _ _ c.loop-n.invariant.last c.known-known.ensures c.defined-def.ensures
 
 pub returns : goal.returns
 returns c =

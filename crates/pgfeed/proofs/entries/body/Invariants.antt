@@ -5,6 +5,7 @@ use Rattle.std.specs.Iterator.Adapters.{enumerate_count, enumerate_source, zip_f
 use Rattle.pgapply.specs.Works.{IsNumbered, change_values}
 use Rattle.pgledger.specs.Images.{lines}
 use Rattle.pgfeed.specs.Texts.{body_text, messages_text, told_after}
+use Rattle.pgfeed.proofs.Places.{LastStands}
 use Rattle.pgfeed.proofs.entries.body.Given as goal
 
 abbrev pub invariant-loop-n : goal.invariant-loop-n
@@ -19,5 +20,6 @@ invariant-loop-n l = record {
       (lines (change_values l.definitions (zip_first (enumerate_source l.n-iterator)))
       (iter_rest (zip_second (enumerate_source l.n-iterator))))
       ≡ told_after l.told (l.start + length (messages_text l.messages)) 0 (lines (change_values l.definitions l.entries) l.images);
+  last : LastStands l.definitions (l.told ++ l.piece.told.items) l.last;
   numbered : AllByRecursion (IsNumbered l.definitions) (zip_first (enumerate_source l.n-iterator));
 }
