@@ -12,3 +12,4 @@ mod SameDefinition
 pub mod OneReading
 pub mod Heard
 pub mod Places
+pub mod Writing

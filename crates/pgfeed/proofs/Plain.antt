@@ -8,27 +8,15 @@ use Rattle.serde_json.specs.Data.{Data, null, string}
 use Rattle.serde_json.specs.Find.{is_float, of_integer}
 use Rattle.serde_json.specs.View.{view}
 use Rattle.serde_json.specs.Written.{compact_text, has_float}
-use Rattle.pgtuple.specs.declared.cell.Cell.{Cell}
-use Rattle.pgtuple.specs.declared.cell.Cell.TheVariants.{Null, Unchanged, Text, Binary}
 use Rattle.pglogical.specs.declared.message.Column.{Column}
 use Rattle.pglogical.specs.declared.message.RelationDef.{RelationDef}
 use Rattle.pgrel.specs.Identity.{keyed}
-use Rattle.pgjson.specs.Cells.{cell_data, cells_data, list}
+use Rattle.pgjson.specs.Cells.{list}
 use Rattle.pgfeed.specs.Texts.{columns_data, key_data, key_names}
 
 integer_plain : (n : ℤ) → is_float (of_integer n) ≡ false
 integer_plain (pos n) = refl
 integer_plain (negsuc n) = refl
-
-cell_plain : (cell : Cell) → has_float (cell_data cell) ≡ false
-cell_plain Null = refl
-cell_plain Unchanged = refl
-cell_plain (Text bytes) = refl
-cell_plain (Binary bytes) = refl
-
-pub cells_plain : (cells : List Cell) → has_float (cells_data cells) ≡ false
-cells_plain [] = refl
-cells_plain (cell ∷ cells) = rw (cell_plain cell, cells_plain cells)
 
 pub columns_plain : (columns : List Column) → has_float (columns_data columns) ≡ false
 columns_plain [] = refl

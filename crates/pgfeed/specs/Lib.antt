@@ -1,4 +1,5 @@
 pub mod Texts
+pub mod Writing
 pub mod Hearing
 pub mod Fits
 pub mod Reading

@@ -27,7 +27,8 @@ loop-n-preserved c =
 
 pub tell-requires : goal.tell-requires
 tell-requires c =
-    known_stands c.args.definitions.now (c.args.told.now ++ c.loop-n.piece.told.items) _ _ _ _ c.loop-n.invariant.last c.known-known.ensures c.defined-def.ensures
+    known_stands c.args.definitions.now (c.args.told.now ++ c.loop-n.piece.told.items) _ _ _ _ c.loop-n.invariant.last
+    c.known-known.ensures c.defined-def.ensures
 
 pub returns : goal.returns
 returns c =

@@ -27,7 +27,8 @@ pub returns-in-Err-clause-refused : goal.returns-in-Err-clause-refused
 returns-in-Err-clause-refused g c =
     let failed = c.in-Err.ensures in
     rest_at_most g.F.File.Disk.seen g.F.File.Disk.may_leave g.F.File.Disk.is_clean g.F.Folder.is_true g.F.Folder.places
-    g.F.Folder.has c.args.self.now (record c.write.new.self { segment = c.stop.new.self; cause = c.lost-self.result }) failed.begins c.args.commit.now.end
+    g.F.Folder.has c.args.self.now (record c.write.new.self { segment = c.stop.new.self; cause = c.lost-self.result }) failed.begins
+    c.args.commit.now.end
     (λ es kept. all_stays g.F.File.Disk.seen g.F.File.Disk.may_leave g.F.File.Disk.is_clean
     g.F.Folder.is_true g.F.Folder.places g.F.Folder.has
     c.write.new.self _ (record {
@@ -50,7 +51,8 @@ pub returns-in-Err-clause-rests : goal.returns-in-Err-clause-rests
 returns-in-Err-clause-rests g c =
     let failed = c.in-Err.ensures in
     let goes = goes_on_by g.F.File.Disk.seen g.F.File.Disk.may_leave g.F.File.Disk.is_clean g.F.Folder.is_true g.F.Folder.places
-    g.F.Folder.has c.args.self.now c.write.new.self (record c.write.new.self { segment = c.stop.new.self; cause = c.lost-self.result }) failed.goes
+    g.F.Folder.has c.args.self.now c.write.new.self (record c.write.new.self { segment = c.stop.new.self; cause = c.lost-self.result })
+    failed.goes
     (goes_stays g.F.File.Disk.seen g.F.File.Disk.may_leave g.F.File.Disk.is_clean g.F.Folder.is_true g.F.Folder.places g.F.Folder.has
     c.write.new.self (record c.write.new.self { segment = c.stop.new.self; cause = c.lost-self.result }) (record {
       on = record {
@@ -68,7 +70,8 @@ returns-in-Err-clause-rests g c =
       stuck = λ free. absurd (true_false (sym (ap (λ (s : Segment g.row.F-File.Denot). s.is_stuck) c.stop.ensures) ∙ free));
     })) in
     rest_rests g.F.File.Disk.seen g.F.File.Disk.may_leave g.F.File.Disk.is_clean g.F.Folder.is_true g.F.Folder.places
-    g.F.Folder.has c.args.self.now (record c.write.new.self { segment = c.stop.new.self; cause = c.lost-self.result }) failed.begins failed.limits goes
+    g.F.Folder.has c.args.self.now (record c.write.new.self { segment = c.stop.new.self; cause = c.lost-self.result }) failed.begins
+    failed.limits goes
 
 pub returns-in-Err-clause-ends : goal.returns-in-Err-clause-ends
 returns-in-Err-clause-ends g c =
