@@ -1,7 +1,7 @@
--- One more item of those that are copied.
-use Rattle.std.proofs.Common.{◌≡◌, ◌+◌, ◌++◌, ◌∷◌, [], ℕ, zero, suc, List, Some, take, refl, ap}
-use Rattle.std.proofs.Common.{◌∙◌, sym}
-use Rattle.std.specs.Prelude.{option_map, slice_get}
+-- Items that are borrowed or copied, one after the other.
+use Rattle.std.proofs.Common.{◌≡◌, ◌<◌, ◌+◌, ◌++◌, ◌∷◌, [], ℕ, zero, suc, List, Some, take, refl}
+use Rattle.std.proofs.Common.{ap, ◌∙◌, sym, subst, length, arith}
+use Rattle.std.specs.Prelude.{Option, IsSome, option_map, slice_get}
 use Rattle.std.proofs.lemmas.List.{take_more}
 use Rattle.std.proofs.lemmas.Option.{slice_get_within, get_or_from_slice_get}
 use Rattle.pglogical.specs.declared.message.Item.{Item}
@@ -20,3 +20,10 @@ taken_item held place item found =
     let there : slice_get (items_of held) place ≡ Some item = sym (found ∙ slice_get-items_of held place) in
     sym (take_more (items_of held) place item (slice_get_within (items_of held) place item there)
     ∙ ap (λ y. take place (items_of held) ++ y ∷ []) (get_or_from_slice_get (items_of held) place item item there))
+
+-- there is one at each index below their number
+pub item_there : (held : List LabelledItem) (index : ℕ) (item : Option Item)
+    → item ≡ option_map (λ (l : LabelledItem). l.1) (slice_get held index) → index < length held → IsSome item
+item_there [] index item is below = absurd (omega arith)
+item_there (l ∷ held) zero item is below = subst IsSome (sym is) refl
+item_there (l ∷ held) (suc index) item is below = item_there held index item is (omega arith)

@@ -1,5 +1,5 @@
 //! Spools over the items of each open transaction.
-ghost use Rattle.std.specs.Prelude.{◌≡◌, if◌then◌else◌};
+ghost use Rattle.std.specs.Prelude.{◌≡◌, true, if◌then◌else◌};
 ghost use Rattle.std.specs.FinMap as map;
 ghost use Rattle.pgspool.specs.Labels.{cut, held_of};
 
@@ -72,6 +72,10 @@ impl<T: TransactionItems> Spools for SpoolsOf<T> {
     ghost most = { λ s. s.most };
 
     ghost may_fail = { ⊥ };
+
+    ghost is_honest = { λ _. true };
+
+    ghost is_ready = { λ _ _. Unit {0} };
 
     ghost is_loaded = { λ _ _. Unit {0} };
 
