@@ -2,4 +2,5 @@ mod Reading
 mod Storing
 mod Keeping
 mod Spooling
+mod Failing
 mod WorkedRows

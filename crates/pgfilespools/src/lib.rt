@@ -4,7 +4,7 @@
 //! PostgreSQL documentation, Streaming of Large Transactions for Logical Decoding, and Logical
 //! Streaming Replication Protocol.
 //!
-//! They hold what the spools of `pgspool` hold, and fail where a write or a read fails:
+//! They are spools as `pgspool` has them, and fail where a write or a read fails:
 //!
 //! ```text
 //! let mut spools = FileSpools::new(alloc, disk, max_bytes, max_in_memory);
@@ -25,6 +25,7 @@ mod fault;
 mod file_items;
 mod file_spools;
 mod place;
+mod spools;
 mod stored;
 
 pub use file_spools::FileSpools;

@@ -51,21 +51,10 @@ fn item_over<'a>(rt: &impl Abort, body: &'a [u8]) -> ItemRef<'a> {
     }
 }
 
-/// A transaction's items in memory, one behind the other.
-fn held<P: Spools>(rt: &(impl Abort + AllocGlobal), spools: &mut P, xid: u32) -> Vec<u8> {
-    let mut bytes = Vec::new(rt.alloc());
-    spools.load(xid).expect(rt, "load");
-    for place in 0..spools.count(xid) {
-        let item = spools.item(xid, place).expect(rt, "an item");
-        encode_item(&item, &mut bytes).expect(rt, "memory");
-    }
-    bytes
-}
-
-/// A transaction's items over a file, one behind the other.
-fn read<D: Disk + Drop>(
+/// A transaction's items, one behind the other.
+fn read<P: Spools>(
     rt: &(impl Abort + AllocGlobal),
-    spools: &mut FileSpools<D>,
+    spools: &mut P,
     xid: u32,
 ) -> Result<Vec<u8>, SpoolFault> {
     let mut bytes = Vec::new(rt.alloc());
@@ -78,9 +67,9 @@ fn read<D: Disk + Drop>(
 }
 
 /// Pushes the item to both, unless it can't be held.
-fn push<D: Disk + Drop>(
+fn push<P: Spools>(
     rt: &(impl Abort + AllocGlobal),
-    spools: &mut FileSpools<D>,
+    spools: &mut P,
     model: &mut ByteSpools,
     xid: u32,
     number: u32,
@@ -93,26 +82,26 @@ fn push<D: Disk + Drop>(
     assert!(rt; model.is_open(xid));
     spools.push(xid, subxid, &item)?;
     model.push(xid, subxid, &item).expect(rt, "push");
-    assert!(rt; spools.in_memory() <= IN_MEMORY + LARGEST);
     Ok(())
 }
 
 /// The items of both are the same, where those of the file can be read.
-fn compare<D: Disk + Drop>(
+fn compare<P: Spools>(
     rt: &(impl Abort + AllocGlobal),
-    spools: &mut FileSpools<D>,
+    spools: &mut P,
     model: &mut ByteSpools,
     xid: u32,
 ) -> Result<(), SpoolFault> {
     let bytes = read(rt, spools, xid)?;
-    assert!(rt; bytes.as_slice() == held(rt, model, xid).as_slice());
+    let expected = read(rt, model, xid).expect(rt, "load");
+    assert!(rt; bytes.as_slice() == expected.as_slice());
     Ok(())
 }
 
 /// One call of both.
-fn step<D: Disk + Drop>(
+fn step<P: Spools>(
     rt: &(impl Abort + AllocGlobal),
-    spools: &mut FileSpools<D>,
+    spools: &mut P,
     model: &mut ByteSpools,
     numbers: &mut Numbers,
 ) -> Result<(), SpoolFault> {
@@ -130,8 +119,8 @@ fn step<D: Disk + Drop>(
         }
         1 => {
             let subxid = numbers.next() % 7;
-            spools.cut(xid, subxid);
-            model.cut(xid, subxid)
+            model.cut(xid, subxid).expect(rt, "cut");
+            spools.cut(xid, subxid)
         }
         2 | 3 => compare(rt, spools, model, xid),
         _ => push(rt, spools, model, xid, numbers.next()),
@@ -154,6 +143,7 @@ fn run<D: Disk + Drop>(
             failed = true;
         }
         assert!(rt; spools.bytes() == model.bytes());
+        assert!(rt; spools.in_memory() <= IN_MEMORY + LARGEST);
     }
     for xid in 1..7u32 {
         assert!(rt; spools.count(xid) == model.count(xid));
