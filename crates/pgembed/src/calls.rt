@@ -14,8 +14,7 @@ ghost use Rattle.pgembed.specs.Passed.{IsPassed};
 use crate::dumped::rows_text;
 use crate::passing::{MEMORY, pass, pass_stream_fault, stream_number};
 use pgapply::ReplicaStore;
-use pgspool::Spools;
-use pgsub_core::{Fault, Subscriber};
+use pgsub_core::{Fault, Loads, Subscriber};
 use std::alloc::{AllocError, Global};
 
 /// What a subscriber is to do.
@@ -47,7 +46,7 @@ pub(crate) enum Call<'a> {
 /// short.
 ///
 /// After a fault each chunk is rejected with 8, until the subscriber is disconnected.
-pub fn feed_piece<P: Spools + Drop, C: ReplicaStore + Drop>(
+pub fn feed_piece<P: Loads<C> + Drop, C: ReplicaStore + Drop>(
     alloc: Global,
     subscriber: &mut Subscriber<P, C>,
     piece: &[u8],
@@ -76,7 +75,7 @@ pub fn feed_piece<P: Spools + Drop, C: ReplicaStore + Drop>(
 
 /// Appends a status to the replies, as `Subscriber::status` does. Returns 0, or 9 where memory is
 /// short.
-pub fn append_status<P: Spools + Drop, C: ReplicaStore + Drop>(
+pub fn append_status<P: Loads<C> + Drop, C: ReplicaStore + Drop>(
     subscriber: &mut Subscriber<P, C>,
     clock: i64,
     ask: bool,
@@ -92,7 +91,7 @@ pub fn append_status<P: Spools + Drop, C: ReplicaStore + Drop>(
 
 /// Passes the status frames that wait to be sent to the server, and drops them where there was
 /// room.
-pub fn pass_replies<P: Spools + Drop, C: ReplicaStore + Drop>(
+pub fn pass_replies<P: Loads<C> + Drop, C: ReplicaStore + Drop>(
     subscriber: &mut Subscriber<P, C>,
     room: &mut [u8],
     length: &mut usize,
@@ -110,7 +109,7 @@ pub fn pass_replies<P: Spools + Drop, C: ReplicaStore + Drop>(
 
 /// Passes the lines that `pgsub dump` prints of the rows, in its order. Nothing changes. Where they
 /// can't be read or made, the number of the fault is returned, and nothing is passed.
-pub fn pass_rows<P: Spools + Drop, C: ReplicaStore + Drop>(
+pub fn pass_rows<P: Loads<C> + Drop, C: ReplicaStore + Drop>(
     alloc: Global,
     subscriber: &mut Subscriber<P, C>,
     room: &mut [u8],
@@ -137,7 +136,7 @@ pub fn pass_rows<P: Spools + Drop, C: ReplicaStore + Drop>(
 }
 
 /// Makes a call, with room for what it passes, and returns its number.
-pub(crate) fn make_call<P: Spools + Drop, C: ReplicaStore + Drop>(
+pub(crate) fn make_call<P: Loads<C> + Drop, C: ReplicaStore + Drop>(
     subscriber: &mut Subscriber<P, C>,
     call: Call<'_>,
     room: &mut [u8],
@@ -163,7 +162,7 @@ pub(crate) fn make_call<P: Spools + Drop, C: ReplicaStore + Drop>(
 }
 
 /// The LSN up to which the stored rows are complete, and that up to which the server may forget.
-pub(crate) fn places<P: Spools + Drop, C: ReplicaStore + Drop>(
+pub(crate) fn places<P: Loads<C> + Drop, C: ReplicaStore + Drop>(
     subscriber: &Subscriber<P, C>,
 ) -> (u64, u64)
     ensures position { result.0 ≡ C.place subscriber.now.applied.store }
@@ -173,4 +172,4 @@ pub(crate) fn places<P: Spools + Drop, C: ReplicaStore + Drop>(
 }
 
 /// Drops a subscriber.
-pub(crate) fn end<P: Spools + Drop, C: ReplicaStore + Drop>(_subscriber: Subscriber<P, C>) {}
+pub(crate) fn end<P: Loads<C> + Drop, C: ReplicaStore + Drop>(_subscriber: Subscriber<P, C>) {}

@@ -17,8 +17,7 @@ use crate::fault::FollowFault;
 use crate::link::Link;
 use pgapply::ReplicaStore;
 use pglsn::Lsn;
-use pgspool::Spools;
-use pgsub_core::{Fault, Subscriber};
+use pgsub_core::{Fault, Loads, Subscriber};
 use std::alloc::{AllocError, Global};
 use std::io::{Read, Write};
 
@@ -33,7 +32,7 @@ fn room_for(alloc: Global, len: usize) -> Result<Vec<u8>, AllocError>
 }
 
 // Appends a status where confirmed has moved from what was told.
-fn announce<P: Spools + Drop, C: ReplicaStore + Drop>(
+fn announce<P: Loads<C> + Drop, C: ReplicaStore + Drop>(
     subscriber: &mut Subscriber<P, C>,
     told: Lsn,
     now: i64,
@@ -55,7 +54,7 @@ fn announce<P: Spools + Drop, C: ReplicaStore + Drop>(
 }
 
 // Writes the statuses that wait. Where the session ends, it is forgotten then.
-fn tell<R: Read + Drop, W: Write + Drop, P: Spools + Drop, C: ReplicaStore + Drop>(
+fn tell<R: Read + Drop, W: Write + Drop, P: Loads<C> + Drop, C: ReplicaStore + Drop>(
     link: &mut Link<R, W>,
     subscriber: &mut Subscriber<P, C>,
     ends: bool,
@@ -85,7 +84,7 @@ fn tell<R: Read + Drop, W: Write + Drop, P: Spools + Drop, C: ReplicaStore + Dro
 }
 
 // Tells the server what the store holds.
-fn greet<R: Read + Drop, W: Write + Drop, P: Spools + Drop, C: ReplicaStore + Drop>(
+fn greet<R: Read + Drop, W: Write + Drop, P: Loads<C> + Drop, C: ReplicaStore + Drop>(
     link: &mut Link<R, W>,
     subscriber: &mut Subscriber<P, C>,
     now: i64,
@@ -114,7 +113,7 @@ fn greet<R: Read + Drop, W: Write + Drop, P: Spools + Drop, C: ReplicaStore + Dr
 
 // Feeds the first bytes of a piece, up to the end of their session, and tells the server then what
 // is stored. Returns how many they are.
-fn follow_part<R: Read + Drop, W: Write + Drop, P: Spools + Drop, C: ReplicaStore + Drop>(
+fn follow_part<R: Read + Drop, W: Write + Drop, P: Loads<C> + Drop, C: ReplicaStore + Drop>(
     link: &mut Link<R, W>,
     subscriber: &mut Subscriber<P, C>,
     piece: &[u8],
@@ -166,7 +165,7 @@ fn follow_piece<
     R: Read + Drop,
     W: Write + Drop,
     K: Clock,
-    P: Spools + Drop,
+    P: Loads<C> + Drop,
     C: ReplicaStore + Drop,
 >(
     link: &mut Link<R, W>,
@@ -214,7 +213,7 @@ fn follow_reads<
     R: Read + Drop,
     W: Write + Drop,
     K: Clock,
-    P: Spools + Drop,
+    P: Loads<C> + Drop,
     C: ReplicaStore + Drop,
 >(
     link: &mut Link<R, W>,
@@ -287,7 +286,7 @@ pub fn follow_live<
     R: Read + Drop,
     W: Write + Drop,
     K: Clock,
-    P: Spools + Drop,
+    P: Loads<C> + Drop,
     C: ReplicaStore + Drop,
 >(
     alloc: Global,

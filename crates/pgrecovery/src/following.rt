@@ -12,15 +12,14 @@ ghost use Rattle.pgsub_core.specs.Subscriber.Handled.{fault_in};
 ghost use Rattle.pgsub_core.specs.Subscriber.Following.{FollowsSessions};
 ghost use Rattle.pgrecovery.specs.Recovered.{RecoversHistory, holds_tables, position_of};
 
-use pgspool::Spools;
 use pgstore::Store;
-use pgsub_core::{Fault, Session, Subscriber, follow};
+use pgsub_core::{Fault, Loads, Session, Subscriber, follow};
 use sqlite::{Alter, FileStore};
 use sqlite_disk::Disk;
 
 /// Follows sessions over a store of any kind, since the proof that one over given disks is a store
 /// gets too large.
-fn follow_over<P: Spools + Drop, S: Alter + Drop>(
+fn follow_over<P: Loads<Store<S>> + Drop, S: Alter + Drop>(
     subscriber: &mut Subscriber<P, Store<S>>,
     sessions: &[Session],
     now: i64,
@@ -52,7 +51,7 @@ fn follow_over<P: Spools + Drop, S: Alter + Drop>(
 /// # Errors
 ///
 /// Those of `pgsub_core::follow`.
-pub fn follow_in_files<P: Spools + Drop, D: Disk + Drop>(
+pub fn follow_in_files<P: Loads<Store<FileStore<D>>> + Drop, D: Disk + Drop>(
     subscriber: &mut Subscriber<P, Store<FileStore<D>>>,
     sessions: &[Session],
     now: i64,

@@ -11,8 +11,7 @@ ghost use Rattle.pgsub_cli.specs.StoreAfter.{FeedsFile, StandsFed};
 
 use crate::limits::CLOCK;
 use pgapply::ReplicaStore;
-use pgspool::Spools;
-use pgsub_core::{Fault, Source, Subscriber, pump};
+use pgsub_core::{Fault, Loads, Source, Subscriber, pump};
 use std::alloc::Global;
 use std::io;
 use std::io::{Read, Write};
@@ -72,7 +71,7 @@ pub trait Input {
     /// on, and a listener hears of each read. What comes before a read that fails is fed, and so is
     /// what comes before the first fault. Whatever a crash at the end may leave of the store could
     /// be left before, or has what some front of the bytes leads to.
-    fn feed_to<P: Spools + Drop, C: ReplicaStore + Drop, L: ReadListener + Drop>(
+    fn feed_to<P: Loads<C> + Drop, C: ReplicaStore + Drop, L: ReadListener + Drop>(
         self,
         subscriber: &mut Subscriber<P, C>,
         listener: L,
@@ -110,7 +109,7 @@ impl<R: Read + Drop> Input for R {
         Ok(Some(text))
     }
 
-    fn feed_to<P: Spools + Drop, C: ReplicaStore + Drop, L: ReadListener + Drop>(
+    fn feed_to<P: Loads<C> + Drop, C: ReplicaStore + Drop, L: ReadListener + Drop>(
         self,
         subscriber: &mut Subscriber<P, C>,
         listener: L,

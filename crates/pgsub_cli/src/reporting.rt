@@ -17,8 +17,7 @@ use crate::storing::{Incoming, run_within};
 use pgapply::ReplicaStore;
 use pglsn::Lsn;
 use pgorder::Version;
-use pgspool::Spools;
-use pgsub_core::{Fault, Subscriber};
+use pgsub_core::{Fault, Loads, Subscriber};
 use std::alloc::Global;
 use std::cell::RefCell;
 use std::time::{Clock, Duration, Instant};
@@ -229,7 +228,7 @@ impl<R: Input + Drop, K: Clock + Drop, E: Output + Drop> Input for Counted<'_, R
         self.file.read_whole(alloc, longest)
     }
 
-    fn feed_to<P: Spools + Drop, C: ReplicaStore + Drop, L: ReadListener + Drop>(
+    fn feed_to<P: Loads<C> + Drop, C: ReplicaStore + Drop, L: ReadListener + Drop>(
         self,
         subscriber: &mut Subscriber<P, C>,
         listener: L,

@@ -26,8 +26,8 @@ use core::mem::replace_with;
 use pgapply::{ReplicaStore, StoreFault};
 use pgcommand::Task;
 use pgorder::Version;
-use pgspool::{ByteSpools, Spools};
-use pgsub_core::{Fault, Session, Side, Subscriber, fed_sessions_are_followed, follow};
+use pgspool::ByteSpools;
+use pgsub_core::{Fault, Loads, Session, Side, Subscriber, fed_sessions_are_followed, follow};
 use std::alloc::Global;
 
 /// What is applied to a store.
@@ -60,7 +60,7 @@ pub fn read_input<R: Input + Drop>(
 }
 
 /// Feeds a subscriber what comes.
-fn feed_incoming<R: Input + Drop, P: Spools + Drop, C: ReplicaStore + Drop>(
+fn feed_incoming<R: Input + Drop, P: Loads<C> + Drop, C: ReplicaStore + Drop>(
     subscriber: &mut Subscriber<P, C>,
     incoming: Incoming<R>,
 ) -> Result<(), Fault>

@@ -1,11 +1,11 @@
 -- Changes that are described one after the other.
-use Rattle.std.proofs.Common.{◌≡◌, ◌+◌, inl, inr, true, subst, IfErr, OnOk, OnErr, ℕ, zero, suc}
-use Rattle.std.proofs.Common.{List, [], ◌∷◌, ◌++◌, cond, Option, Some, None, Result, Ok, Err, refl}
-use Rattle.std.proofs.Common.{sym, ap, ◌∙◌, append_assoc, arith, length, drop}
+use Rattle.std.proofs.Common.{◌≡◌, ◌≤◌, ◌+◌, inl, inr, true, subst, IfErr, OnOk, OnErr, ℕ, zero}
+use Rattle.std.proofs.Common.{suc, List, [], ◌∷◌, ◌++◌, cond, Option, Some, None, Result, Ok, Err}
+use Rattle.std.proofs.Common.{refl, sym, ap, ◌∙◌, append_assoc, arith, length, drop}
 use Rattle.std.specs.Prelude.{◌==◌, option_map, slice_get, IsErrAnd, map as mapped}
 use Rattle.std.proofs.lemmas.Bool.{cases_Bool}
 use Rattle.std.proofs.Math.Path.{fun_ext}
-use Rattle.std.proofs.lemmas.List.{drop_more, append-nil}
+use Rattle.std.proofs.lemmas.List.{drop_more, drop_all, append-nil}
 use Rattle.std.proofs.lemmas.Option.{slice_get_within, get_or_from_slice_get}
 use Rattle.std.specs.Ordering.{nat_cmp, eq_by_cmp}
 use Rattle.std.specs.Cmp.{nat_cmp_total}
@@ -136,6 +136,18 @@ pub lacks_behind : (done before : List Change) (rest whole : Result (List Change
 lacks_behind done before rest (Ok changes) f h lacks = let e = lacks.2 in absurd (cc)
 lacks_behind done before rest (Err missing) f h lacks = let e = lacks.2 in let same : missing ≡ lacks.0 = cc in
     (lacks.0, lacks.1, ap Err same)
+
+-- once no item is left, all are described
+pub described_whole : (done : List Change) (find : ℕ → Option RelationDef) (items : List Item) (n : ℕ) (whole : Result (List Change) ℕ)
+    → length items ≤ n → behind_changes done (described_from find (drop n items)) ≡ behind_changes [] whole → whole ≡ Ok done
+described_whole done find items n (Ok changes) le h =
+    let ends : ◌≡◌ {A = Result (List Change) ℕ} (Ok (done ++ [])) (Ok changes) =
+    ap (λ rest. behind_changes done (described_from find rest)) (sym (drop_all n items le)) ∙ h in
+    sym ends ∙ ap Ok (append-nil done)
+described_whole done find items n (Err missing) le h =
+    let ends : ◌≡◌ {A = Result (List Change) ℕ} (Ok (done ++ [])) (Err missing) =
+    ap (λ rest. behind_changes done (described_from find rest)) (sym (drop_all n items le)) ∙ h in
+    absurd (cc)
 
 -- ---- places
 

@@ -26,6 +26,7 @@ ghost use Rattle.pgapply.specs.Taken.{Begins, Leaves, LeavesStaged, Settles, Sta
 ghost use Rattle.pgapply.specs.Taken.{HearsOnly};
 ghost use Rattle.pgsub_core.specs.Subscriber.Applied.{Goes, Stops, IsKept, StaysBesideStore};
 ghost use Rattle.pgsub_core.specs.Calls.Committing.{Commits, RefusesCommit};
+ghost use Rattle.pgsub_core.specs.Calls.Loading.{LoadsBeside};
 ghost use Rattle.pgsub_core.specs.Machine.Counted.{message_counted, decoded_counted, frame_counted};
 ghost use Rattle.pgsub_core.specs.Machine.Counted.{CountsCommit, CountsEvent, CountsBy};
 ghost use Rattle.pgsub_core.specs.Calls.Staging.{Rests, Grows, KeepsItsSettings, IsMark, GoesBack};
@@ -35,6 +36,7 @@ ghost use Rattle.pgsub_core.specs.Machine.Faults.{IsOfFeedingOver, IsOfSpools, I
 
 use crate::committing::{Ending, about_of, commit, later};
 use crate::fault::Fault;
+use crate::loading::Loads;
 use bytes::BytesMut;
 use pgapply::{DumpRow, LogicalMessage, Misses, ReplicaStore};
 use pglogical::{MessageRef, decode_ref};
@@ -57,7 +59,7 @@ pub(crate) struct Mark {
 
 /// Applies the messages of a session to a store.
 #[derive(Drop)]
-pub(crate) struct Applier<P: Spools + Drop, C: ReplicaStore + Drop> {
+pub(crate) struct Applier<P: Loads<C> + Drop, C: ReplicaStore + Drop> {
     alloc: Global,
     order: Order,
     book: Book,
@@ -68,7 +70,7 @@ pub(crate) struct Applier<P: Spools + Drop, C: ReplicaStore + Drop> {
     replies: BytesMut,
 }
 
-impl<P: Spools + Drop, C: ReplicaStore + Drop> Model for Applier<P, C> {
+impl<P: Loads<C> + Drop, C: ReplicaStore + Drop> Model for Applier<P, C> {
     ghost use Rattle.pgsub_core.specs.Subscriber.Applied.{Applied, applied_code};
 
     ghost Value = { Applied C };
@@ -140,15 +142,19 @@ fn cut<P: Spools>(spools: &mut P, xid: u32, label: u32) -> Result<(), Fault>
     Ok(())
 }
 
-// Makes a transaction's items ready to be borrowed.
+// Makes a transaction's items ready to be borrowed. The store learns whether they were read back as
+// they were written.
 #[tactic(auto, using(crate::proofs::Spooling::of_failure))]
-fn load<P: Spools>(spools: &mut P, xid: u32) -> Result<(), Fault>
-    ensures ok { OnOk result (P.is_loaded spools.new xid) }
+fn load<P: Loads<C>, C: ReplicaStore>(spools: &mut P, xid: u32, store: &mut C) -> Result<(), Fault>
+    ensures ready { OnOk result (P.is_ready spools.new xid) }
+    ensures loaded { C.serves store.new → OnOk result (P.is_loaded spools.new xid) }
     ensures refused { IfErr result (IsOfSpools P.may_fail) }
     ensures held { P.held spools.new ≡ P.held spools.old }
     ensures limit { P.most spools.new ≡ P.most spools.old }
+    ensures beside { LoadsBeside C.serves C.is_honest C.holds C.stages C.place C.reach C.missed
+        C.stages_missed C.reopens store.old store.new }
 {
-    spools.load(xid)?;
+    spools.load_beside(xid, store)?;
     Ok(())
 }
 
@@ -177,7 +183,7 @@ fn append_reply(asks: bool, status: &Status, replies: &mut BytesMut) -> Result<(
     Ok(())
 }
 
-impl<P: Spools + Drop, C: ReplicaStore + Drop> Applier<P, C> {
+impl<P: Loads<C> + Drop, C: ReplicaStore + Drop> Applier<P, C> {
     /// Over a store, as after a disconnection.
     pub fn new(alloc: Global, store: C, spools: P, version: Version) -> Applier<P, C>
         ensures store { result.store ≡ store }
@@ -361,7 +367,7 @@ impl<P: Spools + Drop, C: ReplicaStore + Drop> Applier<P, C> {
             self.new.store }
     {
         let xid = ending.xid;
-        load(&mut self.spools, xid)?;
+        load(&mut self.spools, xid, &mut self.store)?;
         let confirmed = commit(
             self.alloc,
             &mut self.book,

@@ -15,6 +15,7 @@ ghost use Rattle.pgsub_core.specs.Server.Described.{described_from};
 ghost use Rattle.pgsub_core.specs.Machine.Replica.{cached, all_cached};
 ghost use Rattle.pgsub_core.specs.Calls.Drafts.{known_to, behind_changes, AreNumbered, IsNumbered};
 ghost use Rattle.pgsub_core.specs.Calls.Drafts.{Adds, IsUndescribed, truncated, LacksDefinition};
+ghost use Rattle.pgsub_core.specs.Machine.Faults.{IsOfFeeding};
 
 use crate::fault::Fault;
 use indexmap::IndexMap;
@@ -156,8 +157,8 @@ fn describe_item<'a>(
     }
 }
 
-/// The changes of a loaded transaction that commits, in the order of its items. The Relation
-/// messages among them go into the cache.
+/// The changes of a transaction that commits, in the order of its items, as they were read back.
+/// The Relation messages among them go into the cache.
 ///
 /// # Errors
 ///
@@ -168,14 +169,16 @@ pub(crate) fn describe<'a, P: Spools>(
     spools: &'a P,
     xid: u32,
 ) -> Result<Work<'a>, Fault>
-    requires { P.is_loaded spools.now xid }
-    ensures changes { IfOk result (λ work. described_from (known_to book.old)
+    requires { P.is_ready spools.now xid }
+    ensures changes { P.is_loaded spools.now xid → IfOk result
+        (λ work. described_from (known_to book.old)
         (items_of (held_of (P.held spools.now) xid)) ≡ Ok work.changes) }
-    ensures cached { OnOk result (book.new ≡ all_cached book.old
+    ensures cached { P.is_loaded spools.now xid → OnOk result (book.new ≡ all_cached book.old
         (items_of (held_of (P.held spools.now) xid))) }
-    ensures refused { IfErr result (λ fault. (fault ≡ Fault.Memory)
+    ensures refused { P.is_loaded spools.now xid → IfErr result (λ fault. (fault ≡ Fault.Memory)
         ⊎ LacksDefinition (described_from (known_to book.old)
         (items_of (held_of (P.held spools.now) xid))) fault) }
+    ensures own { IfErr result IsOfFeeding }
 {
     let mut draft = Draft {
         work: Work::new(alloc),
@@ -202,15 +205,16 @@ fn cache_item(alloc: Global, book: &mut Book, item: &ItemRef<'_>) -> Result<(), 
     Ok(())
 }
 
-/// Puts the Relation messages of a loaded repeat into the cache. Its changes aren't looked at.
+/// Puts the Relation messages of a repeat into the cache, as they were read back. Its changes
+/// aren't looked at.
 pub(crate) fn cache_relations<P: Spools>(
     alloc: Global,
     book: &mut Book,
     spools: &P,
     xid: u32,
 ) -> Result<(), Fault>
-    requires { P.is_loaded spools.now xid }
-    ensures cached { OnOk result (book.new ≡ all_cached book.old
+    requires { P.is_ready spools.now xid }
+    ensures cached { P.is_loaded spools.now xid → OnOk result (book.new ≡ all_cached book.old
         (items_of (held_of (P.held spools.now) xid))) }
     ensures memory { IfErr result (λ fault. fault ≡ Fault.Memory) }
 {

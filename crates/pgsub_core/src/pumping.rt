@@ -11,9 +11,9 @@ ghost use Rattle.pgsub_core.specs.Calls.Pumping.{IsReadOut, Pumps, PumpsUntil, P
 ghost use Rattle.pgsub_core.specs.Calls.Pumping.{PumpsCountedUntil};
 
 use crate::fault::Fault;
+use crate::loading::Loads;
 use crate::subscriber::Subscriber;
 use pgapply::ReplicaStore;
-use pgspool::Spools;
 use std::io::Read;
 
 /// The most bytes that are read at once.
@@ -87,7 +87,7 @@ impl<R: Read + Drop> Source<R> {
 /// read last, and closes the subscriber.
 ///
 /// PostgreSQL documentation, Streaming Replication Protocol, START_REPLICATION.
-pub fn pump<R: Read + Drop, P: Spools + Drop, C: ReplicaStore + Drop>(
+pub fn pump<R: Read + Drop, P: Loads<C> + Drop, C: ReplicaStore + Drop>(
     source: &mut Source<R>,
     subscriber: &mut Subscriber<P, C>,
     now: i64,

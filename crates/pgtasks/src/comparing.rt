@@ -10,15 +10,15 @@ ghost use Rattle.pgsub_cli.specs.Runs.{AreComparedAs, IsUncompared};
 use crate::stores::{Job, in_new_store};
 use pgapply::ReplicaStore;
 use pgorder::Version;
-use pgspool::{ByteSpools, Spools};
+use pgspool::ByteSpools;
 use pgsub_cli::limits::{CLOCK, Limits};
 use pgsub_cli::storing::subscriber_over;
-use pgsub_core::{ConvergeFault, Fault, Session, Side, Subscriber, Verdict, converge};
+use pgsub_core::{ConvergeFault, Fault, Loads, Session, Side, Subscriber, Verdict, converge};
 use std::alloc::Global;
 
 /// The fault of a side, or, where its rows can't be read any more, the one of reading them. So what
 /// is told as the fault of a stream isn't that of a store that has shut meanwhile.
-fn confirmed_fault<P: Spools + Drop, C: ReplicaStore + Drop>(
+fn confirmed_fault<P: Loads<C> + Drop, C: ReplicaStore + Drop>(
     subscriber: &mut Subscriber<P, C>,
     fault: Fault,
 ) -> Fault
@@ -33,9 +33,9 @@ fn confirmed_fault<P: Spools + Drop, C: ReplicaStore + Drop>(
 
 /// Compares two subscribers after these sessions, the left one's first.
 fn compare_subscribers<
-    P: Spools + Drop,
+    P: Loads<C> + Drop,
     C: ReplicaStore + Drop,
-    Q: Spools + Drop,
+    Q: Loads<D> + Drop,
     D: ReplicaStore + Drop,
 >(
     left: &mut Subscriber<P, C>,

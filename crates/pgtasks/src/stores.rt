@@ -15,7 +15,6 @@ ghost use Rattle.pgtasks.specs.Stores.{IsEmpty};
 use core::mem::replace_with;
 use pgapply::ReplicaStore;
 use pgorder::Version;
-use pgspool::Spools;
 use pgstore::{Store, stores_on_memory_disks_are_honest};
 use pgsub_cli::dump::resume_text;
 use pgsub_cli::fault::{Ending, RunFault};
@@ -24,7 +23,7 @@ use pgsub_cli::limits::{CLOCK, Limits};
 use pgsub_cli::printed::Printed;
 use pgsub_cli::reported::{Listener, Reported};
 use pgsub_cli::storing::{Incoming, ToApply, apply_over, subscriber_over};
-use pgsub_core::{Fault, Session, Subscriber, fed_sessions_are_followed, follow};
+use pgsub_core::{Fault, Loads, Session, Subscriber, fed_sessions_are_followed, follow};
 use sqlite::Alter;
 use std::alloc::{AllocError, Global};
 
@@ -135,7 +134,7 @@ fn apply_new<R: Input + Drop, L: Listener + Drop, W: Output + Drop>(
 
 /// Follows sessions from where a subscriber stands, and tells what is reached then, whatever
 /// stopped them.
-fn resume_over<P: Spools + Drop, C: ReplicaStore + Drop>(
+fn resume_over<P: Loads<C> + Drop, C: ReplicaStore + Drop>(
     alloc: Global,
     subscriber: &mut Subscriber<P, C>,
     sessions: &[Session],

@@ -7,12 +7,12 @@ use crate::steps::{are_rows, follow_all, over, position_of, rows_of, sessions_of
 use crate::trials::{Trial, in_memory, on_memory_disks, try_in_memory, try_on_memory_disks};
 use pgapply::{DumpRow, ReplicaStore, StoreFault};
 use pgorder::Version;
-use pgspool::{ByteSpools, ListSpools, Spools};
-use pgsub_core::{Fault, Session, Subscriber};
+use pgspool::{ByteSpools, ListSpools};
+use pgsub_core::{Fault, Loads, Session, Subscriber};
 use std::process::Abort;
 
 /// All rows, asked for once more where memory ran out.
-fn rows_in_the_end<P: Spools + Drop, C: ReplicaStore + Drop>(
+fn rows_in_the_end<P: Loads<C> + Drop, C: ReplicaStore + Drop>(
     subscriber: &mut Subscriber<P, C>,
 ) -> Result<Vec<DumpRow>, Fault> {
     match rows_of(subscriber) {
@@ -32,7 +32,7 @@ fn rows_at(position: u64) -> Option<&'static [Stored]> {
 }
 
 /// Whether the rows are those of the commit at the position.
-fn has_rows_of_a_commit<P: Spools + Drop, C: ReplicaStore + Drop>(
+fn has_rows_of_a_commit<P: Loads<C> + Drop, C: ReplicaStore + Drop>(
     subscriber: &mut Subscriber<P, C>,
 ) -> Result<bool, Fault> {
     let Some(wanted) = rows_at(position_of(subscriber)) else {
@@ -44,7 +44,7 @@ fn has_rows_of_a_commit<P: Spools + Drop, C: ReplicaStore + Drop>(
 
 /// Follows a session to its end, once more where memory ran out; then the rows in between are those
 /// of a commit. Where a store on disks has shut, the position is still that of a commit.
-fn follow_in_the_end<P: Spools + Drop, C: ReplicaStore + Drop>(
+fn follow_in_the_end<P: Loads<C> + Drop, C: ReplicaStore + Drop>(
     rt: &impl Abort,
     subscriber: &mut Subscriber<P, C>,
     sessions: &[Session],
@@ -59,7 +59,7 @@ fn follow_in_the_end<P: Spools + Drop, C: ReplicaStore + Drop>(
 }
 
 /// Whether a session is applied whole, where one allocation may fail.
-fn takes_whole<P: Spools + Drop, C: ReplicaStore + Drop>(
+fn takes_whole<P: Loads<C> + Drop, C: ReplicaStore + Drop>(
     rt: &impl Abort,
     subscriber: &mut Subscriber<P, C>,
     sessions: &[Session],
@@ -69,7 +69,7 @@ fn takes_whole<P: Spools + Drop, C: ReplicaStore + Drop>(
 }
 
 /// The same over a new store.
-fn takes_all<P: Spools + Drop, C: ReplicaStore + Drop>(
+fn takes_all<P: Loads<C> + Drop, C: ReplicaStore + Drop>(
     rt: &(impl Abort + AllocGlobal),
     store: C,
     spools: P,

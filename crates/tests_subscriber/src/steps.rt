@@ -6,8 +6,8 @@ use hex::FromHexError;
 use pgapply::{DumpRow, ReplicaStore};
 use pglsn::Lsn;
 use pgorder::Version;
-use pgspool::{ByteSpools, ListSpools, Spools};
-use pgsub_core::{Fault, Session, Subscriber, follow};
+use pgspool::{ByteSpools, ListSpools};
+use pgsub_core::{Fault, Loads, Session, Subscriber, follow};
 use pgtuple::{Bytes, Cell, Seq};
 use std::alloc::Global;
 use std::process::Abort;
@@ -122,7 +122,7 @@ pub(crate) fn sessions_of(
 // subscriber's contracts.
 
 /// A new subscriber over a store.
-pub(crate) fn over<P: Spools + Drop, C: ReplicaStore + Drop>(
+pub(crate) fn over<P: Loads<C> + Drop, C: ReplicaStore + Drop>(
     alloc: Global,
     store: C,
     spools: P,
@@ -132,7 +132,7 @@ pub(crate) fn over<P: Spools + Drop, C: ReplicaStore + Drop>(
 }
 
 /// Feeds bytes at once.
-pub(crate) fn feed<P: Spools + Drop, C: ReplicaStore + Drop>(
+pub(crate) fn feed<P: Loads<C> + Drop, C: ReplicaStore + Drop>(
     subscriber: &mut Subscriber<P, C>,
     bytes: &[u8],
 ) -> Result<(), Fault> {
@@ -140,7 +140,7 @@ pub(crate) fn feed<P: Spools + Drop, C: ReplicaStore + Drop>(
 }
 
 /// Follows sessions.
-pub(crate) fn follow_all<P: Spools + Drop, C: ReplicaStore + Drop>(
+pub(crate) fn follow_all<P: Loads<C> + Drop, C: ReplicaStore + Drop>(
     subscriber: &mut Subscriber<P, C>,
     sessions: &[Session],
 ) -> Result<(), Fault> {
@@ -148,21 +148,21 @@ pub(crate) fn follow_all<P: Spools + Drop, C: ReplicaStore + Drop>(
 }
 
 /// The position in the log up to which all is stored.
-pub(crate) fn position_of<P: Spools + Drop, C: ReplicaStore + Drop>(
+pub(crate) fn position_of<P: Loads<C> + Drop, C: ReplicaStore + Drop>(
     subscriber: &Subscriber<P, C>,
 ) -> u64 {
     subscriber.position().0
 }
 
 /// All rows.
-pub(crate) fn rows_of<P: Spools + Drop, C: ReplicaStore + Drop>(
+pub(crate) fn rows_of<P: Loads<C> + Drop, C: ReplicaStore + Drop>(
     subscriber: &mut Subscriber<P, C>,
 ) -> Result<Vec<DumpRow>, Fault> {
     subscriber.rows()
 }
 
 /// Feeds bytes in chunks.
-fn feed_chunks<P: Spools + Drop, C: ReplicaStore + Drop>(
+fn feed_chunks<P: Loads<C> + Drop, C: ReplicaStore + Drop>(
     subscriber: &mut Subscriber<P, C>,
     bytes: &[u8],
     chunk_len: usize,
@@ -201,7 +201,7 @@ pub(crate) fn are_rows(rows: &[DumpRow], stored: &[Stored]) -> bool {
 }
 
 /// Whether following sessions gives this result.
-fn follows<P: Spools + Drop, C: ReplicaStore + Drop>(
+fn follows<P: Loads<C> + Drop, C: ReplicaStore + Drop>(
     rt: &(impl Abort + AllocGlobal),
     subscriber: &mut Subscriber<P, C>,
     sessions: &[&str],
@@ -215,7 +215,7 @@ fn follows<P: Spools + Drop, C: ReplicaStore + Drop>(
 }
 
 /// Whether feeding messages gives this result.
-fn feeds<P: Spools + Drop, C: ReplicaStore + Drop>(
+fn feeds<P: Loads<C> + Drop, C: ReplicaStore + Drop>(
     rt: &(impl Abort + AllocGlobal),
     subscriber: &mut Subscriber<P, C>,
     messages: &str,
@@ -235,7 +235,7 @@ fn are_bytes(rt: &(impl Abort + AllocGlobal), bytes: &[u8], digits: &str) -> boo
 }
 
 /// Whether position, confirmed and received are these.
-fn is_at<P: Spools + Drop, C: ReplicaStore + Drop>(
+fn is_at<P: Loads<C> + Drop, C: ReplicaStore + Drop>(
     subscriber: &Subscriber<P, C>,
     position: u64,
     confirmed: u64,
@@ -247,7 +247,7 @@ fn is_at<P: Spools + Drop, C: ReplicaStore + Drop>(
 }
 
 /// Whether so many changes found no row, the first of them in the commit that ends there.
-fn has_missed<P: Spools + Drop, C: ReplicaStore + Drop>(
+fn has_missed<P: Loads<C> + Drop, C: ReplicaStore + Drop>(
     subscriber: &Subscriber<P, C>,
     count: u64,
     end: u64,
@@ -266,7 +266,7 @@ fn has_missed<P: Spools + Drop, C: ReplicaStore + Drop>(
 }
 
 /// Whether these are all stored rows.
-fn has_rows<P: Spools + Drop, C: ReplicaStore + Drop>(
+fn has_rows<P: Loads<C> + Drop, C: ReplicaStore + Drop>(
     rt: &impl Abort,
     subscriber: &mut Subscriber<P, C>,
     stored: &[Stored],
@@ -276,7 +276,7 @@ fn has_rows<P: Spools + Drop, C: ReplicaStore + Drop>(
 }
 
 /// Takes a step. Returns whether its result is the one that it names.
-fn take<P: Spools + Drop, C: ReplicaStore + Drop>(
+fn take<P: Loads<C> + Drop, C: ReplicaStore + Drop>(
     rt: &(impl Abort + AllocGlobal),
     subscriber: &mut Subscriber<P, C>,
     step: Step,
@@ -302,7 +302,7 @@ fn take<P: Spools + Drop, C: ReplicaStore + Drop>(
 }
 
 /// Takes the steps of a row, each chunk of a session of so many bytes.
-pub(crate) fn take_steps<P: Spools + Drop, C: ReplicaStore + Drop>(
+pub(crate) fn take_steps<P: Loads<C> + Drop, C: ReplicaStore + Drop>(
     rt: &(impl Abort + AllocGlobal),
     subscriber: &mut Subscriber<P, C>,
     row: &Row,
@@ -319,7 +319,7 @@ pub(crate) fn take_steps<P: Spools + Drop, C: ReplicaStore + Drop>(
 }
 
 /// Takes the steps of a row by a new subscriber. Returns the store then.
-pub(crate) fn taken<P: Spools + Drop, C: ReplicaStore + Drop>(
+pub(crate) fn taken<P: Loads<C> + Drop, C: ReplicaStore + Drop>(
     rt: &(impl Abort + AllocGlobal),
     store: C,
     spools: P,

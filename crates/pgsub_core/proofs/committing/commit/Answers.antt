@@ -10,17 +10,17 @@ use Rattle.pgsub_core.proofs.Commits.{refuses_undescribed}
 use Rattle.pgsub_core.proofs.committing.commit.Goals as goal
 
 pub returns-then-le-clause-taken : goal.returns-then-le-clause-taken
-returns-then-le-clause-taken g c serves =
+returns-then-le-clause-taken g c loaded serves =
     let items = items_of (held_of (g.P.Spools.held c.args.spools.now) c.args.ending.xid) in
     let test = c.if-le.true in
     let below = c.le.ensures in
     let standing = c.reached.ensures.reach in
     let not_below : nat_lt (g.C.ReplicaStore.reach c.args.store.now) c.args.ending.end ≡ false = grind (arith, nat_tests) in
     commits_again g.C.ReplicaStore.stages g.C.ReplicaStore.reach c.args.ending.end items c.args.store.now c.args.store.now c.args.confirmed
-    c.args.book.now c.cache_relations.new.book not_below c.in_ok-cache_relations.ensures.cached
+    c.args.book.now c.cache_relations.new.book not_below (c.in_ok-cache_relations.ensures.cached loaded)
 
 pub returns-in_err-work-clause-refused : goal.returns-in_err-work-clause-refused
-returns-in_err-work-clause-refused g c serves =
+returns-in_err-work-clause-refused g c loaded serves =
     let items = items_of (held_of (g.P.Spools.held c.args.spools.now) c.args.ending.xid) in
     let test = c.if-le.false in
     let below = c.le.ensures in
@@ -28,10 +28,10 @@ returns-in_err-work-clause-refused g c serves =
     let lt : nat_lt (g.C.ReplicaStore.reach c.args.store.now) c.args.ending.end ≡ true = grind (arith, nat_tests) in
     on_residual c.from_residual-in_err-work.result c.in_err-work.field-0.0 _ c.from_residual-in_err-work.ensures.1
     (refuses_undescribed g.C.ReplicaStore.stages g.C.ReplicaStore.reach c.args.ending.end items c.args.store.now c.args.store.now
-    c.args.confirmed c.args.book.now c.args.book.now lt c.in_err-work.field-0.0 c.in_err-work.ensures.refused)
+    c.args.confirmed c.args.book.now c.args.book.now lt c.in_err-work.field-0.0 (c.in_err-work.ensures.refused loaded))
 
 pub returns-clause-taken : goal.returns-clause-taken
-returns-clause-taken g c serves =
+returns-clause-taken g c loaded serves =
     let items = items_of (held_of (g.P.Spools.held c.args.spools.now) c.args.ending.xid) in
     let test = c.if-le.false in
     let below = c.le.ensures in
@@ -39,10 +39,11 @@ returns-clause-taken g c serves =
     let lt : nat_lt (g.C.ReplicaStore.reach c.args.store.now) c.args.ending.end ≡ true = grind (arith, nat_tests) in
     commits_changes g.C.ReplicaStore.stages g.C.ReplicaStore.reach c.args.ending.end items c.args.store.now c.stage.new.self
     c.args.confirmed c.args.book.now c.describe.new.book lt c.later.result c.in_ok-work.work.changes
-    c.in_ok-work.ensures.changes c.in_ok-work.ensures.cached (c.in_ok-stage.ensures.staged serves) c.in_ok-stage.ensures.end c.later.ensures
+    (c.in_ok-work.ensures.changes loaded) (c.in_ok-work.ensures.cached loaded) (c.in_ok-stage.ensures.staged serves)
+    c.in_ok-stage.ensures.end c.later.ensures
 
 pub returns-in_err-stage-clause-refused : goal.returns-in_err-stage-clause-refused
-returns-in_err-stage-clause-refused g c serves =
+returns-in_err-stage-clause-refused g c loaded serves =
     let items = items_of (held_of (g.P.Spools.held c.args.spools.now) c.args.ending.xid) in
     let test = c.if-le.false in
     let below = c.le.ensures in
@@ -52,10 +53,10 @@ returns-in_err-stage-clause-refused g c serves =
     on_told c.from_residual-in_err-stage.result (fault_of_store c.in_err-stage.field-0.0) _ _ c.from_residual-in_err-stage.ensures.1
     (refuses_work g.C.ReplicaStore.stages g.C.ReplicaStore.reach c.args.ending.end items c.args.store.now c.stage.new.self c.args.confirmed
     c.args.book.now c.describe.new.book lt less c.in_ok-work.work.changes c.in_err-stage.field-0.0
-    c.in_ok-work.ensures.changes (c.in_err-stage.ensures.undone serves) (c.in_err-stage.ensures.fault serves))
+    (c.in_ok-work.ensures.changes loaded) (c.in_err-stage.ensures.undone serves) (c.in_err-stage.ensures.fault serves))
 
 pub returns-in_err-work-clause-why : goal.returns-in_err-work-clause-why
-returns-in_err-work-clause-why g c honest serves =
+returns-in_err-work-clause-why g c loaded honest serves =
     let items = items_of (held_of (g.P.Spools.held c.args.spools.now) c.args.ending.xid) in
     let test = c.if-le.false in
     let below = c.le.ensures in
@@ -63,10 +64,10 @@ returns-in_err-work-clause-why g c honest serves =
     let lt : nat_lt (g.C.ReplicaStore.reach c.args.store.now) c.args.ending.end ≡ true = grind (arith, nat_tests) in
     on_residual c.from_residual-in_err-work.result c.in_err-work.field-0.0 _ c.from_residual-in_err-work.ensures.1
     (refuses_undescribed g.C.ReplicaStore.stages g.C.ReplicaStore.reach c.args.ending.end items c.args.store.now c.args.store.now
-    c.args.confirmed c.args.book.now c.args.book.now lt c.in_err-work.field-0.0 c.in_err-work.ensures.refused)
+    c.args.confirmed c.args.book.now c.args.book.now lt c.in_err-work.field-0.0 (c.in_err-work.ensures.refused loaded))
 
 pub returns-in_err-stage-clause-why : goal.returns-in_err-stage-clause-why
-returns-in_err-stage-clause-why g c honest serves =
+returns-in_err-stage-clause-why g c loaded honest serves =
     let items = items_of (held_of (g.P.Spools.held c.args.spools.now) c.args.ending.xid) in
     let test = c.if-le.false in
     let below = c.le.ensures in
@@ -76,7 +77,7 @@ returns-in_err-stage-clause-why g c honest serves =
     on_told c.from_residual-in_err-stage.result (fault_of_store c.in_err-stage.field-0.0) _ _ c.from_residual-in_err-stage.ensures.1
     (refuses_work g.C.ReplicaStore.stages g.C.ReplicaStore.reach c.args.ending.end items c.args.store.now c.args.store.now c.args.confirmed
     c.args.book.now c.describe.new.book lt less c.in_ok-work.work.changes c.in_err-stage.field-0.0
-    c.in_ok-work.ensures.changes (λ tables h. h) (c.in_err-stage.ensures.why honest serves))
+    (c.in_ok-work.ensures.changes loaded) (λ tables h. h) (c.in_err-stage.ensures.why honest serves))
 
 pub returns-then-le-clause-rests : goal.returns-then-le-clause-rests
 returns-then-le-clause-rests g c =
@@ -84,7 +85,7 @@ returns-then-le-clause-rests g c =
     rests_same it.holds it.place it.reopens it.serves it.is_honest c.args.store.now c.args.store.now refl
 
 pub returns-then-le-clause-counts : goal.returns-then-le-clause-counts
-returns-then-le-clause-counts g c serves tables h =
+returns-then-le-clause-counts g c loaded serves tables h =
     let test = c.if-le.true in
     let below = c.le.ensures in
     let standing = c.reached.ensures.reach in
@@ -92,9 +93,9 @@ returns-then-le-clause-counts g c serves tables h =
     rw not_below refl
 
 pub returns-clause-counts : goal.returns-clause-counts
-returns-clause-counts g c serves tables h =
+returns-clause-counts g c loaded serves tables h =
     let test = c.if-le.false in
     let below = c.le.ensures in
     let standing = c.reached.ensures.reach in
     let lt : nat_lt (g.C.ReplicaStore.reach c.args.store.now) c.args.ending.end ≡ true = grind (arith, nat_tests) in
-    rw (lt, c.in_ok-work.ensures.changes) (c.in_ok-stage.ensures.counts serves tables h)
+    rw (lt, c.in_ok-work.ensures.changes loaded) (c.in_ok-stage.ensures.counts serves tables h)
