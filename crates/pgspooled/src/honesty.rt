@@ -6,10 +6,11 @@ ghost use Rattle.std.specs.Borrow.{ftrue};
 use pgspool::Spools;
 use std::marker::{Model, PhantomData};
 
-/// Whether all spools that were noted had given back what was written to them. It has no bytes, and
-/// no code can read it: `is_true` is what the clauses of `new` and `note` say of it, and nothing
-/// ties it to a run but that `note` is called after each load. So where clauses begin with
-/// `is_true`, trust those two clauses, and that call in `load_beside`.
+/// Whether all spools that were noted had given back what was written to them.
+///
+/// It has no bytes and no code reads it, so a reader has to trust that `new` and `note`, which set
+/// it alone, say by their clauses what is meant. That `load_beside` notes after each load is a
+/// clause of its own, and proved.
 #[derive(Drop)]
 pub struct Honesty {
     nothing: PhantomData<u8>,

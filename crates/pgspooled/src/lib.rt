@@ -11,10 +11,12 @@
 #![tactic(auto)]
 
 mod honesty;
+mod laws;
 mod live_spools;
 mod loading;
 mod spooled;
 
 pub use honesty::Honesty;
+pub use laws::memory_is_honest;
 pub use live_spools::LiveSpools;
 pub use spooled::Spooled;
