@@ -12,16 +12,15 @@ ghost use Rattle.pgsub_core.specs.Subscriber.Handled.{fault_in};
 ghost use Rattle.pgsub_core.specs.Subscriber.Following.{FollowsSessions};
 ghost use Rattle.pgrecovery.specs.Recovered.{RecoversHistory, holds_tables, position_of};
 
-use pgspool::{SpoolsOf, TransactionItems};
 use pgstore::Store;
-use pgsub_core::{Fault, Session, Subscriber, follow};
+use pgsub_core::{Fault, Loads, Session, Subscriber, follow};
 use sqlite::{Alter, FileStore};
 use sqlite_disk::Disk;
 
 /// Follows sessions over a store of any kind, since the proof that one over given disks is a store
 /// gets too large.
-fn follow_over<T: TransactionItems + Drop, S: Alter + Drop>(
-    subscriber: &mut Subscriber<SpoolsOf<T>, Store<S>>,
+fn follow_over<P: Loads<Store<S>> + Drop, S: Alter + Drop>(
+    subscriber: &mut Subscriber<P, Store<S>>,
     sessions: &[Session],
     now: i64,
 ) -> Result<(), Fault>
@@ -39,7 +38,7 @@ fn follow_over<T: TransactionItems + Drop, S: Alter + Drop>(
     follow(subscriber, sessions, now)
 }
 
-/// Follows sessions as `pgsub_core::follow` does, over a store in two files, with spools in memory.
+/// Follows sessions as `pgsub_core::follow` does, over a store in two files.
 ///
 /// Of sessions of a history, whatever is returned, the rows are the history's up to the position,
 /// all that is confirmed is stored, and it is known what was handled and why it ended (`followed`).
@@ -52,8 +51,8 @@ fn follow_over<T: TransactionItems + Drop, S: Alter + Drop>(
 /// # Errors
 ///
 /// Those of `pgsub_core::follow`.
-pub fn follow_in_files<T: TransactionItems + Drop, D: Disk + Drop>(
-    subscriber: &mut Subscriber<SpoolsOf<T>, Store<FileStore<D>>>,
+pub fn follow_in_files<D: Disk + Drop, P: Loads<Store<FileStore<D>>> + Drop>(
+    subscriber: &mut Subscriber<P, Store<FileStore<D>>>,
     sessions: &[Session],
     now: i64,
 ) -> Result<(), Fault>
