@@ -16,6 +16,7 @@ use Rattle.clap.specs.declared.builder.action.ArgAction.TheVariants.{SetTrue}
 use Rattle.clap.specs.declared.builder.value_parser.ValueParser.TheVariants.{Signed, Unsigned}
 use Rattle.pgcommand.specs.declared.feed.FeedOptions.{FeedOptions}
 use Rattle.pgcommand.specs.declared.limits.Limits.{Limits}
+use Rattle.pgcommand.specs.declared.spool.SpoolOptions.{SpoolOptions}
 use Rattle.pgcommand.specs.declared.task.Task.{Task}
 use Rattle.pgcommand.specs.declared.task.Task.TheVariants.{Show, Apply, Dump, Follow, Same, Resume}
 use Rattle.pgcommand.specs.declared.task.Task.TheVariants.{Lsn, Watch}
@@ -54,7 +55,6 @@ max_buffered_rule = record (new_rule (codes "max-buffered")) {
   long = Some (codes "max-buffered");
   value_names = 1;
   parser = Some (Unsigned 0 18446744073709551615);
-  defaults = codes "67108864" ∷ [];
 }
 
 abbrev pub max_frame_rule : Rule
@@ -125,6 +125,27 @@ with_feed a = with_rule (with_rule (with_rule
     (with_rule (with_rule (with_rule (with_rule a feed_rule) (feed_text_rule (codes "feed-system")))
     (feed_text_rule (codes "feed-database"))) (feed_text_rule (codes "feed-slot"))) feed_bytes_rule) feed_seconds_rule) messages_rule
 
+-- the file in which the changes of open transactions go on
+abbrev pub spool_rule : Rule
+spool_rule = record (new_rule (codes "spool")) { long = Some (codes "spool"); value_names = 1 }
+
+-- how many bytes of them stay in memory
+abbrev pub spool_memory_rule : Rule
+spool_memory_rule = record (new_rule (codes "spool-memory")) {
+  long = Some (codes "spool-memory");
+  value_names = 1;
+  parser = Some (Unsigned 0 18446744073709551615);
+}
+
+abbrev pub with_spool : App → App
+with_spool a = with_rule (with_rule a spool_rule) spool_memory_rule
+
+abbrev pub with_watch : App → App
+with_watch a = with_rule (with_rule a watch_rule) repeats_rule
+
+abbrev pub with_start : App → App
+with_start a = with_rule (with_rule a load_rule) trust_rule
+
 abbrev pub show_app : App
 show_app = with_rule (with_rule (new_app (codes "show")) proto_rule) (word_rule (codes "FILE"))
 
@@ -138,9 +159,9 @@ abbrev pub dump_app : App
 dump_app = with_rule (with_rule (new_app (codes "dump")) (store_rule true)) cache_rule
 
 abbrev pub follow_app : App
-follow_app = with_feed (with_rule (with_rule (with_rule (with_rule (with_rule
-    (with_rule (with_rule (with_rule (with_rule (new_app (codes "follow")) proto_rule) max_buffered_rule) max_frame_rule) (store_rule true))
-    cache_rule) watch_rule) repeats_rule) load_rule) trust_rule)
+follow_app = with_spool (with_feed (with_start (with_watch
+    (with_rule (with_rule (with_rule (with_rule (with_rule (new_app (codes "follow")) proto_rule) max_buffered_rule) max_frame_rule)
+    (store_rule true)) cache_rule))))
 
 abbrev pub same_app : App
 same_app = with_rule (with_rule (with_rule (new_app (codes "same")) proto_rule) (word_rule (codes "LEFT"))) (word_rule (codes "RIGHT"))
@@ -179,15 +200,28 @@ ReadsAsOne value = (text : Text) × (value ≡ Some text) × IsNumeral 10 (witho
 abbrev pub IsVersion : List Row → Version → Type 0
 IsVersion rows version = (version ≡ One) ↔ ReadsAsOne (one_of (codes "proto") rows)
 
--- The number that the value of an option reads as, where that is at most so much. Each option has a
--- default value, and another text is a fault of the words.
+-- The number that the value of an option reads as, where that is at most so much. Another text is a
+-- fault of the words.
 abbrev pub ReadsUpTo : ℕ → Option Text → ℕ → Type 0
 ReadsUpTo most value n =
     (text : Text) → value ≡ Some text → IsNumeral 10 (without_leading_plus text) → digits_value 10 (without_leading_plus text) ≤ most
     → n ≡ digits_value 10 (without_leading_plus text)
 
+-- the number that the value of an option reads as, or this one where it isn't given
+abbrev pub ReadsOr : ℕ → ℕ → Option Text → ℕ → Type 0
+ReadsOr default most None n = n ≡ default
+ReadsOr default most (Some text) n = ReadsUpTo most (Some text) n
+
+abbrev pub is_given : Text → List Row → Bool
+is_given name rows = is_some (first_of name rows)
+
+-- What all open transactions may cost where `--max-buffered` isn't given: 64 MiB in memory, and
+-- with a spool in a file the greatest number of 64 bits, no limit.
+abbrev pub default_buffered : List Row → ℕ
+default_buffered rows = if is_given (codes "spool") rows then 18446744073709551615 else 67108864
+
 pub record IsLimits (rows : List Row) (limits : Limits) : Type 0 where
-  pub buffered : ReadsUpTo 18446744073709551615 (one_of (codes "max-buffered") rows) limits.max_buffered
+  pub buffered : ReadsOr (default_buffered rows) 18446744073709551615 (one_of (codes "max-buffered") rows) limits.max_buffered
   pub frame : ReadsUpTo 2147483643 (one_of (codes "max-frame") rows) limits.max_frame
 
 -- How many pages of the store's file are kept in memory. A file of SQLite has at most 4294967294.
@@ -202,12 +236,7 @@ IsFlag name rows flag = (one_of name rows ≡ Some (codes "true") → flag ≡ t
 abbrev pub NamesFile : Text → List Row → Option (String Global) → Type 0
 NamesFile name rows file = option_map string_bytes file ≡ first_of name rows
 
--- the number that the value of an option reads as, or this one where it isn't given
-abbrev pub ReadsOr : ℕ → ℕ → Option Text → ℕ → Type 0
-ReadsOr default most None n = n ≡ default
-ReadsOr default most (Some text) n = ReadsUpTo most (Some text) n
-
--- the same number, and none where the option isn't given
+-- the number that the value of an option reads as, and none where it isn't given
 abbrev pub ReadsIfGiven : ℕ → Option Text → Option ℕ → Type 0
 ReadsIfGiven most None number = number ≡ None
 ReadsIfGiven most (Some text) number =
@@ -230,6 +259,16 @@ abbrev pub AsksFeed : List Row → Option FeedOptions → Type 0
 AsksFeed rows None = first_of (codes "feed") rows ≡ None
 AsksFeed rows (Some feed) = IsFeed rows feed
 
+-- a spool in the file that `--spool` names, with so much of it in memory
+pub record IsSpool (rows : List Row) (spool : SpoolOptions) : Type 0 where
+  pub file : first_of (codes "spool") rows ≡ Some (string_bytes spool.file)
+  pub memory : ReadsOr 67108864 18446744073709551615 (one_of (codes "spool-memory") rows) spool.memory
+
+-- the spool in a file that is asked for, and none where `--spool` isn't given
+abbrev pub AsksSpool : List Row → Option SpoolOptions → Type 0
+AsksSpool rows None = first_of (codes "spool") rows ≡ None
+AsksSpool rows (Some spool) = IsSpool rows spool
+
 -- what a word says of how the server is watched
 abbrev pub watching_of : Text → Option Watching
 watching_of word = if bytes_eq word (codes "tell") then Some Tell else (if bytes_eq word (codes "stop") then Some Stop else None)
@@ -245,9 +284,9 @@ IsAsked name rows (Apply version limits raw progress store cache feed file) =
     × IsFlag (codes "progress") rows progress × NamesFile (codes "store") rows store × IsCache rows cache × AsksFeed rows feed
     × (string_bytes file ≡ text_in (codes "FILE") rows)
 IsAsked name rows (Dump store cache) = (name ≡ codes "dump") × IsCache rows cache × (string_bytes store ≡ text_in (codes "store") rows)
-IsAsked name rows (Follow version limits store cache feed watch repeats load trust) =
+IsAsked name rows (Follow version limits store cache feed spool watch repeats load trust) =
     (name ≡ codes "follow") × IsVersion rows version × IsLimits rows limits × IsCache rows cache × AsksFeed rows feed
-    × (watch ≡ watching_in rows) × NamesFile (codes "repeats") rows repeats × IsFlag (codes "load") rows load
+    × AsksSpool rows spool × (watch ≡ watching_in rows) × NamesFile (codes "repeats") rows repeats × IsFlag (codes "load") rows load
     × IsFlag (codes "trust-store") rows trust × (string_bytes store ≡ text_in (codes "store") rows)
 IsAsked name rows (Same version left right) =
     (name ≡ codes "same") × IsVersion rows version × (string_bytes left ≡ text_in (codes "LEFT") rows)
@@ -264,9 +303,6 @@ IsCommandName name = (name ≡ codes "show")
     ⊎ ((name ≡ codes "follow")
     ⊎ ((name ≡ codes "same") ⊎ ((name ≡ codes "resume") ⊎ ((name ≡ codes "lsn") ⊎ (name ≡ codes "watch")))))))
 
-abbrev pub is_given : Text → List Row → Bool
-is_given name rows = is_some (first_of name rows)
-
 -- something of a feed is told
 abbrev pub tells_of_feed : List Row → Bool
 tells_of_feed rows =
@@ -280,9 +316,13 @@ tells_of_feed rows =
 abbrev pub lacks_of_feed : List Row → Bool
 lacks_of_feed rows = if is_given (codes "feed") rows then not (is_given (codes "store") rows) else tells_of_feed rows
 
+-- or something is told of a spool in a file that isn't asked for
+abbrev pub lacks_of_spool : List Row → Bool
+lacks_of_spool rows = is_given (codes "spool-memory") rows && not (is_given (codes "spool") rows)
+
 -- or commits are to be compared with the noted ones, and the server isn't watched
 abbrev pub lacks_word : List Row → Bool
-lacks_word rows = lacks_of_feed rows || (is_given (codes "repeats") rows && not (is_given (codes "watch") rows))
+lacks_word rows = lacks_of_feed rows || (lacks_of_spool rows || (is_given (codes "repeats") rows && not (is_given (codes "watch") rows)))
 
 -- `--watch` is given with a word that says nothing of it
 abbrev pub misnames_watch : List Row → Bool

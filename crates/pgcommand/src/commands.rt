@@ -9,9 +9,11 @@ ghost use Rattle.pgcommand.specs.Asked.{feed_rule, feed_text_rule, feed_bytes_ru
 ghost use Rattle.pgcommand.specs.Asked.{feed_seconds_rule, messages_rule, with_feed, show_app};
 ghost use Rattle.pgcommand.specs.Asked.{apply_app, dump_app, follow_app, same_app, resume_app};
 ghost use Rattle.pgcommand.specs.Asked.{lsn_app, watch_app, watch_rule, repeats_rule, load_rule};
+ghost use Rattle.pgcommand.specs.Asked.{spool_rule, spool_memory_rule, with_spool};
+ghost use Rattle.pgcommand.specs.Asked.{with_start, with_watch};
 ghost use Rattle.pgcommand.specs.Asked.{trust_rule, bare_app, pgsub_app};
 
-use crate::task::WATCH;
+use crate::task::{SPOOL, WATCH};
 use crate::watching::WATCHINGS;
 use clap::error::ErrorKind;
 use clap::{Arg, ArgAction, Command, Error, value_parser};
@@ -27,7 +29,7 @@ const FOLLOW_STATUSES: &str = "Exit statuses:
   10  the buffered items of open transactions would cost more than --max-buffered
   11  a frame is longer than --max-frame
   12  the store can't be opened, as while another process has it open
-  13  the store or the feed failed, while it was open or as it was closed
+  13  the store, the feed or the spool failed, while it was open or as it was closed
   14  memory has run out
   15  standard input or output failed
   16  the stream ended, and some of its changes found no row
@@ -53,6 +55,15 @@ const CACHE: &str =
 /// What the help of `apply` and `follow` says of `--store`.
 const STORE: &str =
     "Keep rows and position in this file and go on from what it holds; it is made where it isn't there";
+
+/// What the help of `apply` says of `--max-buffered`.
+const BUFFERED: &str =
+    "The most that the buffered changes of all open transactions may cost [default: 67108864]";
+
+/// What the help of `follow` says of `--max-buffered`.
+const BUFFERED_OR_SPOOLED: &str =
+    "The most that the buffered changes of all open transactions may cost \
+    [default: 67108864, and with --spool none]";
 
 /// The version of the program, as `--version` prints it.
 pub const VERSION: &str = "0.1.0";
@@ -135,14 +146,11 @@ fn cache<'a>(alloc: Global) -> Arg<'a>
 }
 
 /// `--max-buffered BYTES`.
-fn max_buffered<'a>(alloc: Global) -> Arg<'a>
+fn max_buffered<'a>(alloc: Global, help: &'a str) -> Arg<'a>
     ensures rule { rule_of result ≡ max_buffered_rule }
     ensures local { result.global ≡ false }
 {
-    let help = "The most that the buffered changes of all open transactions may cost";
-    option(alloc, "max-buffered", "BYTES", help)
-        .value_parser(value_parser!(u64))
-        .default_value("67108864")
+    option(alloc, "max-buffered", "BYTES", help).value_parser(value_parser!(u64))
 }
 
 /// `--max-frame BYTES`.
@@ -269,6 +277,49 @@ fn with_feed<'a>(alloc: Global, command: Command<'a>) -> Result<Command<'a>, All
         .arg(messages(alloc))
 }
 
+/// `--spool FILE`.
+fn spool<'a>(alloc: Global) -> Arg<'a>
+    ensures rule { rule_of result ≡ spool_rule }
+    ensures local { result.global ≡ false }
+{
+    let help = "The changes of open transactions that memory doesn't hold go on in this file; \
+        what it holds at the start is lost";
+    option(alloc, "spool", "FILE", help)
+}
+
+/// `--spool-memory BYTES`.
+fn spool_memory<'a>(alloc: Global) -> Arg<'a>
+    ensures rule { rule_of result ≡ spool_memory_rule }
+    ensures local { result.global ≡ false }
+{
+    let help = "So many bytes of them stay in memory; needs --spool [default: 67108864]";
+    option(alloc, "spool-memory", "BYTES", help).value_parser(value_parser!(u64))
+}
+
+/// Adds the options of a spool in a file.
+fn with_spool<'a>(alloc: Global, command: Command<'a>) -> Result<Command<'a>, AllocError>
+    ensures { (app : App) → IsCommand app command.entry →
+        IfOk result (IsCommand (with_spool app)) }
+{
+    command.arg(spool(alloc))?.arg(spool_memory(alloc))
+}
+
+/// Adds `--watch HOW` and `--repeats FILE`.
+fn with_watch<'a>(alloc: Global, command: Command<'a>) -> Result<Command<'a>, AllocError>
+    ensures { (app : App) → IsCommand app command.entry →
+        IfOk result (IsCommand (with_watch app)) }
+{
+    command.arg(watch(alloc))?.arg(repeats(alloc))
+}
+
+/// Adds `--load` and `--trust-store`.
+fn with_start<'a>(alloc: Global, command: Command<'a>) -> Result<Command<'a>, AllocError>
+    ensures { (app : App) → IsCommand app command.entry →
+        IfOk result (IsCommand (with_start app)) }
+{
+    command.arg(load(alloc))?.arg(trust(alloc))
+}
+
 /// Adds `--store FILE` and `--cache PAGES`.
 fn with_store<'a>(
     alloc: Global,
@@ -282,12 +333,18 @@ fn with_store<'a>(
     command.arg(store(alloc, required, help))?.arg(cache(alloc))
 }
 
-/// Adds `--max-buffered BYTES` and `--max-frame BYTES`.
-fn with_limits<'a>(alloc: Global, command: Command<'a>) -> Result<Command<'a>, AllocError>
+/// Adds `--max-buffered BYTES`, of which the help says this, and `--max-frame BYTES`.
+fn with_limits<'a>(
+    alloc: Global,
+    command: Command<'a>,
+    help: &'a str,
+) -> Result<Command<'a>, AllocError>
     ensures { (app : App) → IsCommand app command.entry →
         IfOk result (IsCommand (with_rule (with_rule app max_buffered_rule) max_frame_rule)) }
 {
-    command.arg(max_buffered(alloc))?.arg(max_frame(alloc))
+    command
+        .arg(max_buffered(alloc, help))?
+        .arg(max_frame(alloc))
 }
 
 /// Adds a subcommand, unless there was no memory for it.
@@ -332,7 +389,8 @@ fn apply_command<'a>(alloc: Global) -> Result<Command<'a>, AllocError>
     .arg(proto(alloc))?
     .arg(raw(alloc))?
     .arg(progress(alloc))?;
-    let command = with_limits(alloc, with_store(alloc, command, false, STORE)?)?;
+    let command = with_store(alloc, command, false, STORE)?;
+    let command = with_limits(alloc, command, BUFFERED)?;
     with_feed(alloc, command)?.arg(word(alloc, "FILE", "The recording"))
 }
 
@@ -363,13 +421,12 @@ fn bare_follow<'a>(alloc: Global) -> Command<'a>
 fn follow_command<'a>(alloc: Global) -> Result<Command<'a>, AllocError>
     ensures { IfOk result (IsCommand follow_app) }
 {
-    let command = with_limits(alloc, bare_follow(alloc).arg(proto(alloc))?)?;
-    let command = with_store(alloc, command, true, STORE)?
-        .arg(watch(alloc))?
-        .arg(repeats(alloc))?
-        .arg(load(alloc))?
-        .arg(trust(alloc))?;
-    with_feed(alloc, command)
+    let command = bare_follow(alloc).arg(proto(alloc))?;
+    let command = with_limits(alloc, command, BUFFERED_OR_SPOOLED)?;
+    let command = with_store(alloc, command, true, STORE)?;
+    let command = with_watch(alloc, command)?;
+    let command = with_start(alloc, command)?;
+    with_spool(alloc, with_feed(alloc, command)?)
 }
 
 /// The usage of `apply` with a feed.
@@ -377,6 +434,9 @@ const FED_APPLY: &str = "pgsub apply [OPTIONS] --store <FILE> --feed <FOLDER> <F
 
 /// The usage of `follow` with a feed.
 const FED_FOLLOW: &str = "pgsub follow [OPTIONS] --store <FILE> --feed <FOLDER>";
+
+/// The usage of `follow` with a spool in a file.
+const SPOOLED_FOLLOW: &str = "pgsub follow [OPTIONS] --store <FILE> --spool <FILE>";
 
 /// The usage of `follow` with noted commits.
 const WATCHED_FOLLOW: &str = "pgsub follow [OPTIONS] --store <FILE> --watch <HOW> --repeats <FILE>";
@@ -404,6 +464,8 @@ pub(crate) fn missing(alloc: Global, name: &str, word: &str) -> Result<Error, Al
     )?;
     let usage = if word == WATCH {
         WATCHED_FOLLOW
+    } else if word == SPOOL {
+        SPOOLED_FOLLOW
     } else if name == "apply" {
         FED_APPLY
     } else {

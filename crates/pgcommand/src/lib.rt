@@ -26,6 +26,7 @@ mod commands;
 mod fault;
 mod feed;
 mod limits;
+mod spool;
 mod task;
 mod watching;
 
@@ -35,6 +36,7 @@ pub use fault::CommandFault;
 use fault::usage_fault;
 pub use feed::FeedOptions;
 pub use limits::Limits;
+pub use spool::SpoolOptions;
 use std::alloc::Global;
 use task::{missing_word, task_of, unknown_watch};
 pub use task::{DEFAULT_CACHE, Task};

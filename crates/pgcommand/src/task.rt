@@ -3,13 +3,16 @@
 ghost use Rattle.std.specs.Prelude.{◌≡◌, ◌↔◌, IfOk, Option, Some, is_some, true, codes};
 ghost use Rattle.std.specs.Prelude.{string_bytes};
 ghost use Rattle.clap.specs.Words.{first_of, found_of, one_of, rows_of};
-ghost use Rattle.pgcommand.specs.Asked.{AsksFeed, IsAsked, IsCache, IsCommandName, IsFeed, IsFlag};
-ghost use Rattle.pgcommand.specs.Asked.{IsLimits, NamesFile, ReadsAsOne, ReadsIfGiven, ReadsOr};
-ghost use Rattle.pgcommand.specs.Asked.{IsVersion, ReadsUpTo, is_given, lacks_of_feed, lacks_word};
-ghost use Rattle.pgcommand.specs.Asked.{misnames_watch, tells_of_feed, text_in, watching_in};
+ghost use Rattle.pgcommand.specs.Asked.{AsksFeed, AsksSpool, IsAsked, IsCache, IsCommandName};
+ghost use Rattle.pgcommand.specs.Asked.{IsFeed, IsFlag, IsLimits, IsSpool, IsVersion, NamesFile};
+ghost use Rattle.pgcommand.specs.Asked.{ReadsAsOne, ReadsIfGiven, ReadsOr, ReadsUpTo};
+ghost use Rattle.pgcommand.specs.Asked.{default_buffered, is_given, lacks_of_feed, lacks_of_spool};
+ghost use Rattle.pgcommand.specs.Asked.{lacks_word, misnames_watch, tells_of_feed, text_in};
+ghost use Rattle.pgcommand.specs.Asked.{watching_in};
 
 use crate::feed::FeedOptions;
 use crate::limits::Limits;
+use crate::spool::SpoolOptions;
 use crate::watching::Watching;
 use clap::ArgMatches;
 use pgorder::Version;
@@ -21,7 +24,8 @@ pub const DEFAULT_CACHE: u32 = 20_000;
 /// What the program is asked for. `version` is that of the logical replication protocol, 2 by
 /// default, `limits` those of the stream that is applied, `Limits::DEFAULT` by default, and `cache`
 /// how many pages of the file `store` are kept in memory, `DEFAULT_CACHE` by default. Beside a
-/// store a feed of its commits is kept, if one is asked for.
+/// store a feed of its commits is kept, if one is asked for. With a spool in a file,
+/// `limits.max_buffered` is by default `u64::MAX`.
 #[derive(Debug, Drop)]
 pub enum Task {
     /// Print one line for each frame of a recording.
@@ -51,13 +55,15 @@ pub enum Task {
     /// Rows and position are kept in the file `store`. With `watch` the server is watched for the
     /// rules that a well-formed one keeps, and with `repeats` its commits are noted in that file,
     /// and compared where they come again. With `load`, tables as COPY's text come before the first
-    /// session. With `trust`, no row of the store is read before: a run left it as it is.
+    /// session. With `trust`, no row of the store is read before: a run left it as it is. With
+    /// `spool`, the changes of open transactions go on in a file.
     Follow {
         version: Version,
         limits: Limits,
         store: String,
         cache: u32,
         feed: Option<FeedOptions>,
+        spool: Option<SpoolOptions>,
         watch: Option<Watching>,
         repeats: Option<String>,
         load: bool,
@@ -104,15 +110,24 @@ fn version_of(found: &ArgMatches<'_>) -> Version
     }
 }
 
+/// What `--max-buffered` is where it isn't given: with a spool in a file no limit.
+fn default_buffered(found: &ArgMatches<'_>) -> u64
+    ensures { result ≡ default_buffered (rows_of (found_of found.now)) }
+{
+    if is_given(found, "spool") {
+        u64::MAX
+    } else {
+        Limits::DEFAULT.max_buffered
+    }
+}
+
 /// The value of `--max-buffered`.
 fn max_buffered_of(found: &ArgMatches<'_>) -> u64
-    ensures { ReadsUpTo 18446744073709551615
+    ensures { ReadsOr (default_buffered (rows_of (found_of found.now))) 18446744073709551615
         (one_of (codes "max-buffered") (rows_of (found_of found.now))) result }
 {
-    match found.get_one::<u64>("max-buffered") {
-        Some(bytes) => bytes,
-        None => Limits::DEFAULT.max_buffered,
-    }
+    let default = default_buffered(found);
+    found.get_one::<u64>("max-buffered").unwrap_or(default)
 }
 
 /// The value of `--max-frame`.
@@ -194,6 +209,9 @@ fn tells_of_feed(found: &ArgMatches<'_>) -> bool
 /// The word of `--watch`, as a usage names it.
 pub(crate) const WATCH: &str = "--watch <HOW>";
 
+/// The word of `--spool`, as a usage names it.
+pub(crate) const SPOOL: &str = "--spool <FILE>";
+
 /// The word that the matches of a subcommand lack for a feed: that needs a store, and what is told
 /// of one needs a feed.
 fn missing_for_feed(found: &ArgMatches<'_>) -> Option<&'static str>
@@ -212,13 +230,23 @@ fn missing_for_feed(found: &ArgMatches<'_>) -> Option<&'static str>
     }
 }
 
-/// The word that the matches of a subcommand lack: a feed lacks one, or noted commits lack the
-/// watch.
+/// Whether something is told of a spool in a file, and no file is given.
+fn lacks_of_spool(found: &ArgMatches<'_>) -> bool
+    ensures { result ≡ lacks_of_spool (rows_of (found_of found.now)) }
+{
+    is_given(found, "spool-memory") && !is_given(found, "spool")
+}
+
+/// The word that the matches of a subcommand lack: a feed lacks one, a spool its file, or noted
+/// commits lack the watch.
 pub(crate) fn missing_word(found: &ArgMatches<'_>) -> Option<&'static str>
     ensures { is_some result ≡ lacks_word (rows_of (found_of found.now)) }
 {
     if let Some(word) = missing_for_feed(found) {
         return Some(word);
+    }
+    if lacks_of_spool(found) {
+        return Some(SPOOL);
     }
     if is_given(found, "repeats") && !is_given(found, "watch") {
         Some(WATCH)
@@ -301,6 +329,38 @@ fn feed_of(alloc: Global, found: &ArgMatches<'_>) -> Result<Option<FeedOptions>,
     }
 }
 
+/// The value of `--spool-memory`.
+fn spool_memory_of(found: &ArgMatches<'_>) -> u64
+    ensures { ReadsOr 67108864 18446744073709551615
+        (one_of (codes "spool-memory") (rows_of (found_of found.now))) result }
+{
+    found
+        .get_one::<u64>("spool-memory")
+        .unwrap_or(SpoolOptions::MEMORY)
+}
+
+/// What is told of the spool in this file.
+fn spool_in(alloc: Global, found: &ArgMatches<'_>, file: &str) -> Result<SpoolOptions, AllocError>
+    ensures { Some file.now ≡ first_of (codes "spool") (rows_of (found_of found.now)) →
+        IfOk result (IsSpool (rows_of (found_of found.now))) }
+{
+    let file = String::from_str(alloc, file)?;
+    Ok(SpoolOptions {
+        file,
+        memory: spool_memory_of(found),
+    })
+}
+
+/// The spool that `--spool` asks for.
+fn spool_of(alloc: Global, found: &ArgMatches<'_>) -> Result<Option<SpoolOptions>, AllocError>
+    ensures { IfOk result (AsksSpool (rows_of (found_of found.now))) }
+{
+    match found.get_str("spool") {
+        Some(file) => Ok(Some(spool_in(alloc, found, file)?)),
+        None => Ok(None),
+    }
+}
+
 /// The task that the subcommand `apply` asks for by these matches.
 fn apply_of(alloc: Global, found: &ArgMatches<'_>) -> Result<Task, AllocError>
     ensures { IfOk result (IsAsked (codes "apply") (rows_of (found_of found.now))) }
@@ -326,6 +386,7 @@ fn follow_of(alloc: Global, found: &ArgMatches<'_>) -> Result<Task, AllocError>
 {
     let store = value_of(alloc, found, "store")?;
     let feed = feed_of(alloc, found)?;
+    let spool = spool_of(alloc, found)?;
     let repeats = file_of(alloc, found, "repeats")?;
     Ok(Task::Follow {
         version: version_of(found),
@@ -333,6 +394,7 @@ fn follow_of(alloc: Global, found: &ArgMatches<'_>) -> Result<Task, AllocError>
         store,
         cache: cache_of(found),
         feed,
+        spool,
         watch: watch_of(found),
         repeats,
         load: flag_of(found, "load"),

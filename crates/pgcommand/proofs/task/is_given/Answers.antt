@@ -1,4 +1,4 @@
-use Rattle.std.proofs.Common.{◌∙◌, ap, Bor, List, ℕ, Option}
+use Rattle.std.proofs.Common.{◌∙◌, ap, List, ℕ, Option}
 use Rattle.std.specs.Option.{is_some}
 use Rattle.clap.specs.Words.{found_of}
 use Rattle.clap.proofs.WalkLemmas.{first_value-rows}

@@ -1,20 +1,17 @@
-use Rattle.std.proofs.Common.{◌∙◌, sym, arith, codes}
+use Rattle.std.proofs.Common.{◌∙◌, ap, arith, subst, sym, codes, unwrap_or}
 use Rattle.std.specs.Str.Parse.{ParsesUnsigned, ExplainsUnsignedError, HasUnsignedDigitsIfOk}
-use Rattle.clap.specs.Words.{found_of}
+use Rattle.clap.specs.Words.{found_of, one_of, rows_of}
 use Rattle.clap.proofs.WalkLemmas.{one_text-rows}
-use Rattle.pgcommand.proofs.Building.{none≢some, reads_up_to, some-inj}
+use Rattle.pgcommand.specs.Asked.{ReadsOr, default_buffered}
+use Rattle.pgcommand.proofs.Building.{reads_or}
 use Rattle.pgcommand.proofs.task.max_buffered_of.Goals as goal
 
-pub returns-in-Some : goal.returns-in-Some
-returns-in-Some c =
+pub returns : goal.returns
+returns c =
     let same = one_text-rows (found_of c.args.found.now) (codes "max-buffered") in
-    reads_up_to _ (λ bs r. ParsesUnsigned 64 10 bs r × ExplainsUnsignedError 10 bs r × HasUnsignedDigitsIfOk bs r) 64 18446744073709551615 _
-    c.get_one.result (omega arith) (λ u x g. g.0)
-    (λ u e. c.get_one.ensures.value u (same ∙ e)) _ (λ m e small. some-inj (sym c.in-Some.is ∙ e))
-
-pub returns-in-None : goal.returns-in-None
-returns-in-None c =
-    let same = one_text-rows (found_of c.args.found.now) (codes "max-buffered") in
-    reads_up_to _ (λ bs r. ParsesUnsigned 64 10 bs r × ExplainsUnsignedError 10 bs r × HasUnsignedDigitsIfOk bs r) 64 18446744073709551615 _
-    c.get_one.result (omega arith) (λ u x g. g.0)
-    (λ u e. c.get_one.ensures.value u (same ∙ e)) _ (λ m e small. absurd (none≢some (sym c.in-None.is ∙ e)))
+    let rows = rows_of (found_of c.args.found.now) in
+    subst (ReadsOr (default_buffered rows) 18446744073709551615 (one_of (codes "max-buffered") rows))
+    (sym (c.unwrap_or.ensures ∙ ap (unwrap_or c.get_one.result) c.default_buffered-default.ensures))
+    (reads_or _ (λ bs r. ParsesUnsigned 64 10 bs r × ExplainsUnsignedError 10 bs r × HasUnsignedDigitsIfOk bs r) 64 18446744073709551615
+    (default_buffered rows) _ c.get_one.result (omega arith) (λ u x g. g.0)
+    (λ e. c.get_one.ensures.none (same ∙ e)) (λ u e. c.get_one.ensures.value u (same ∙ e)))

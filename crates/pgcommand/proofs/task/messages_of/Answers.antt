@@ -1,6 +1,6 @@
 use Rattle.std.proofs.Common.{◌∙◌, arith, codes}
 use Rattle.std.specs.Str.Parse.{ParsesUnsigned, ExplainsUnsignedError, HasUnsignedDigitsIfOk}
-use Rattle.clap.specs.Words.{found_of, one_of, rows_of}
+use Rattle.clap.specs.Words.{found_of}
 use Rattle.clap.proofs.WalkLemmas.{one_text-rows}
 use Rattle.pgcommand.proofs.Building.{reads_if_given}
 use Rattle.pgcommand.proofs.task.messages_of.Goals as goal
