@@ -13,17 +13,19 @@ use Rattle.pgsub_cli.specs.declared.fault.Ending.{Ending}
 use Rattle.pgsub_cli.specs.declared.fault.RunFault.{RunFault}
 use Rattle.pgsub_cli.specs.declared.reported.Reported.{Reported}
 use Rattle.pgsub_cli.specs.declared.storing.Incoming.{Incoming}
-use Rattle.pgsub_cli.specs.FollowedLive.{FollowsOver}
+use Rattle.pgspooled.specs.declared.honesty.Honesty.{Honesty}
+use Rattle.pgsub_cli.specs.FollowedLive.{FollowsBuffered}
 use Rattle.pgsub_cli.specs.StoreAfter.{HoldsAfter, LosesNothing, MayBeLeft}
 use Rattle.pgsub_cli.specs.Storing.{PrintsOver}
 
--- `FollowsOver`, of a store that tells a listener of each settling
-abbrev pub FollowsReported : {C : Type 0} → (C → Tables → Type 0) → (C → ℕ) → (C → C → Type 0) → (C → Type 0) → (C → Misses) → (L : Type 0)
-    → Option (List ℕ) → Option (List ℕ) → ℕ → Option (List ℕ) → Option (List ℕ) → Limits → Version → C → C → Option FollowFault → Type 0
-FollowsReported {C} holds place reopens serves count L unread rest reads wrote wrote' limits version opened ended why =
+-- `FollowsBuffered`, of a store that tells a listener of each settling
+abbrev pub FollowsReported : {C P : Type 0} → (C → Tables → Type 0) → (C → ℕ) → (C → C → Type 0) → (C → Type 0) → (C → Misses)
+    → (L : Type 0) → Option P → Option (List ℕ) → Option (List ℕ) → ℕ → Option (List ℕ) → Option (List ℕ) → Limits → Version → C → C
+    → Honesty → Option FollowFault → Type 0
+FollowsReported {C} holds place reopens serves count L spool unread rest reads wrote wrote' limits version opened ended honesty why =
     (told : Reported C L) × (last : Reported C L) × (told.store ≡ opened) × (last.store ≡ ended)
-    × FollowsOver {C = Reported C L} (λ r. holds r.store) (λ r. place r.store) (λ r other. reopens r.store other.store)
-    (λ r. serves r.store) (λ r. count r.store) unread rest reads wrote wrote' limits version told last why
+    × FollowsBuffered {C = Reported C L} (λ r. holds r.store) (λ r. place r.store) (λ r other. reopens r.store other.store)
+    (λ r. serves r.store) (λ r. count r.store) spool unread rest reads wrote wrote' limits version told last honesty why
 
 module _ {C G : Type 0} (holds : C → Tables → Type 0) (place reach : C → ℕ) (supposed : Type 0) (begins : G → ℕ)
     (keeps : G → List Entry → Type 0) (outlasts : G → ℕ → Type 0) (is_stuck : G → Bool) where

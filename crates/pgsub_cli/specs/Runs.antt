@@ -71,7 +71,7 @@ abbrev pub left_path : Task → List ℕ
 left_path (task.Show version file) = string_bytes file
 left_path (task.Apply version limits raw progress store cache feed file) = string_bytes file
 left_path (task.Dump store cache) = string_bytes store
-left_path (task.Follow version limits store cache feed watch repeats load trust) = string_bytes store
+left_path (task.Follow version limits store cache feed spool watch repeats load trust) = string_bytes store
 left_path (task.Same version left right) = string_bytes left
 left_path (task.Resume file) = string_bytes file
 left_path (task.Lsn text) = []
@@ -81,7 +81,7 @@ abbrev pub right_path : Task → List ℕ
 right_path (task.Show version file) = []
 right_path (task.Apply version limits raw progress store cache feed file) = []
 right_path (task.Dump store cache) = []
-right_path (task.Follow version limits store cache feed watch repeats load trust) = []
+right_path (task.Follow version limits store cache feed spool watch repeats load trust) = []
 right_path (task.Same version left right) = string_bytes right
 right_path (task.Resume file) = []
 right_path (task.Lsn text) = []
@@ -91,7 +91,7 @@ right_path (task.Watch version file) = []
 abbrev pub store_path : Task → Option (List ℕ)
 store_path (task.Apply version limits raw progress store cache feed file) = option_map string_bytes store
 store_path (task.Dump store cache) = Some (string_bytes store)
-store_path (task.Follow version limits store cache feed watch repeats load trust) = Some (string_bytes store)
+store_path (task.Follow version limits store cache feed spool watch repeats load trust) = Some (string_bytes store)
 store_path _ = None
 
 -- Standard error gets the line of the fault, and nothing where there is none. Where there is no
@@ -279,7 +279,7 @@ module _ {R W : Type 0} (gives begins : R → List ℕ → Type 0) (read_failed 
   Ends (task.Apply version limits raw progress store cache feed file) left right old new ended =
       Applies limits version raw left old new ended
   Ends (task.Dump store cache) left right old new ended = ⊥
-  Ends (task.Follow version limits store cache feed watch repeats load trust) left right old new ended = ⊥
+  Ends (task.Follow version limits store cache feed spool watch repeats load trust) left right old new ended = ⊥
   Ends (task.Same version file other) left right old new ended = Compares version left right old new ended
   Ends (task.Resume file) left right old new ended = Prints IsReadFault PrintsResumed left old new ended
   Ends (task.Lsn text) left right old new ended = WritesNumber takes write_failed (string_bytes text) old new ended

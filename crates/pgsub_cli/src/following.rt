@@ -4,8 +4,10 @@ ghost use Rattle.std.specs.Prelude.{◌≡◌, ◌≤◌, ◌↔◌, [], true, f
 ghost use Rattle.std.specs.Prelude.{option_map};
 ghost use Rattle.pgfollow.specs.declared.fault.FollowFault.{FollowFault};
 ghost use Rattle.pgfollow.specs.declared.fault.FollowFault.TheVariants as follow;
-ghost use Rattle.pgfollow.specs.Live.{IsOfFollowing, ended_by};
+ghost use Rattle.pgfollow.specs.Live.{IsOfFollowing, IsOfFollowingOver, ended_by};
+ghost use Rattle.pgfollow.specs.Told.{FollowsLive};
 ghost use Rattle.pgsub_core.specs.declared.fault.Fault.TheVariants.{Store};
+ghost use Rattle.pgsub_core.specs.Subscriber.SubscriberValue.{SubscriberValue};
 ghost use Rattle.pgsub_cli.specs.declared.fault.RunFault.TheVariants.{Stream};
 ghost use Rattle.pgsub_cli.specs.FollowStatus.{status_of_fault, status_of_follow, status_of_store};
 ghost use Rattle.pgsub_cli.specs.FollowStatus.{status_of_unfollowed};
@@ -21,7 +23,7 @@ use pgapply::{ReplicaStore, StoreFault};
 use pgfollow::{Clock, FollowFault, Link, follow_live};
 use pgorder::Version;
 use pgspool::SpoolFault;
-use pgsub_core::Fault;
+use pgsub_core::{Fault, Loads, Subscriber};
 use pgwire::WireFault;
 use std::alloc::Global;
 use std::io::{Read, Write};
@@ -132,6 +134,46 @@ fn tell_cause<E: Output>(
     }
 }
 
+/// Follows a server with a subscriber, to the end of its bytes. Returns the exit status, as
+/// `run_follow` does, and the store.
+pub(crate) fn follow_with<
+    R: Read + Drop,
+    W: Write + Drop,
+    K: Clock,
+    P: Loads<C> + Drop,
+    C: ReplicaStore + Drop,
+    E: Output,
+>(
+    alloc: Global,
+    mut subscriber: Subscriber<P, C>,
+    link: &mut Link<R, W>,
+    clock: &mut K,
+    err: &mut E,
+) -> (u8, C)
+    requires readable { link.old.read_failed ≡ false }
+    requires writable { link.old.write_failed ≡ false }
+    ensures status { result.0 ≤ 16 }
+    ensures ends { (ended : Option FollowFault)
+        × (result.0 ≡ status_of_follow (C.missed result.1).count ended)
+        × TellsCaused E.takes E.failed (ending_of ended) err.old err.new
+        × ((ended ≡ Some follow.Read) ↔ (link.new.read_failed ≡ true))
+        × ((ended ≡ Some follow.Write) ↔ (link.new.write_failed ≡ true))
+        × IfSome ended (IsOfFollowingOver P.may_fail)
+        × (C.is_honest result.1 → C.serves subscriber.applied.store →
+        (new : SubscriberValue C) × (new.applied.store ≡ result.1)
+        × FollowsLive C.holds C.place C.reopens C.serves C.missed
+        (R.remaining link.old.reader) (R.remaining link.new.reader) link.new.reads
+        (W.contents link.old.writer) (W.contents link.new.writer) subscriber new ended) }
+    ensures honest { C.is_honest result.1 → C.is_honest subscriber.applied.store }
+{
+    let followed = follow_live(alloc, link, clock, &mut subscriber);
+    let store = subscriber.into_store();
+    let ended = ending(followed);
+    tell_cause(alloc, ended, store.cause(), err);
+    tell(alloc, ended, "", "", err);
+    (follow_status(followed, store.misses().count), store)
+}
+
 /// Follows a server over an opened store, to the end of its bytes, within these limits. Returns the
 /// exit status, and the store. The status is 0 where the bytes ended, and 16 where changes found no
 /// row then; 1 where the stream is rejected, 10 where `max_buffered` is too low and 11 where
@@ -167,11 +209,6 @@ pub fn run_follow<R: Read + Drop, W: Write + Drop, K: Clock, C: ReplicaStore + D
         ended) }
     ensures honest { C.is_honest result.1 → C.is_honest store }
 {
-    let mut subscriber = subscriber_over(alloc, store, limits, version);
-    let followed = follow_live(alloc, link, clock, &mut subscriber);
-    let store = subscriber.into_store();
-    let ended = ending(followed);
-    tell_cause(alloc, ended, store.cause(), err);
-    tell(alloc, ended, "", "", err);
-    (follow_status(followed, store.misses().count), store)
+    let subscriber = subscriber_over(alloc, store, limits, version);
+    follow_with(alloc, subscriber, link, clock, err)
 }

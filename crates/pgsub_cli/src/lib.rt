@@ -6,6 +6,7 @@
 //! ```
 #![tactic(auto)]
 
+mod buffered;
 pub mod dump;
 mod dumping;
 pub mod fault;
@@ -13,6 +14,7 @@ pub mod fault_text;
 pub mod files;
 pub mod following;
 pub mod limits;
+mod live_io;
 mod missing;
 pub mod numbering;
 pub mod over;
@@ -26,8 +28,10 @@ pub mod telling;
 mod watched;
 pub mod watching;
 
+pub use buffered::{SpoolFile, run_buffered};
 pub use dumping::run_dump;
 pub use following::run_follow;
+pub use live_io::LiveIo;
 pub use missing::MissedLines;
 pub use pgcommand::{Limits, Task};
 pub use reported::Reported;

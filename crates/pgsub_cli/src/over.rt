@@ -7,66 +7,68 @@
 ghost use Rattle.std.specs.Prelude.{◌≡◌, ◌↔◌, [], true, false, Option, Result, Some, IfSome};
 ghost use Rattle.pgfollow.specs.declared.fault.FollowFault.{FollowFault};
 ghost use Rattle.pgfollow.specs.declared.fault.FollowFault.TheVariants as follow;
-ghost use Rattle.pgfollow.specs.Live.{IsOfFollowing};
+ghost use Rattle.pgfollow.specs.Live.{IsOfFollowingOver};
 ghost use Rattle.pgsub_cli.specs.declared.fault.Ending.{Ending};
 ghost use Rattle.pgsub_cli.specs.declared.fault.RunFault.{RunFault};
 ghost use Rattle.pgsub_cli.specs.Caused.{TellsCaused};
-ghost use Rattle.pgsub_cli.specs.FollowedLive.{ending_of};
+ghost use Rattle.pgsub_cli.specs.FollowedLive.{IsReadBack, ending_of, may_fail_over};
 ghost use Rattle.pgsub_cli.specs.FollowStatus.{status_of_follow};
 ghost use Rattle.pgsub_cli.specs.Runs.{Tells, status_of};
 ghost use Rattle.pgsub_cli.specs.Over.{AppliesOver, FollowsReported, HoldsBoth, ReopensBoth};
 
+use crate::buffered::{SpoolFile, run_buffered};
 use crate::files::{Input, Output};
-use crate::following::run_follow;
 use crate::limits::Limits;
+use crate::live_io::LiveIo;
 use crate::reported::{Listener, Reported};
 use crate::reporting::{Reporter, run_opened};
 use crate::storing::Incoming;
 use pgapply::ReplicaStore;
-use pgfollow::{Clock, Link};
+use pgfollow::Clock;
 use pgledger::{Ledger, LedgerStore, Recorded, Supposing};
 use pgorder::Version;
+use sqlite_disk::Disk;
 use std::alloc::Global;
 use std::cell::RefCell;
 use std::io::{Read, Write};
 use std::time::Clock as Ticks;
 
-/// Follows a server over an opened store that tells a listener of each settling. Returns the exit
-/// status and the store.
+/// Follows a server over an opened store that tells a listener of each settling, with the changes
+/// of open transactions where `run_buffered` keeps them. Returns the exit status and the store.
 pub fn follow_reported<
     C: ReplicaStore + Drop,
     L: Listener + Drop,
+    D: Disk + Drop,
     R: Read + Drop,
     W: Write + Drop,
-    K: Clock,
-    E: Output,
+    K: Clock + Drop,
+    E: Output + Drop,
 >(
     alloc: Global,
     store: C,
     listener: L,
+    spool: Option<SpoolFile<D>>,
     limits: Limits,
     version: Version,
-    link: &mut Link<R, W>,
-    clock: &mut K,
-    err: &mut E,
+    io: &mut LiveIo<R, W, K, E>,
 ) -> (u8, C)
-    requires readable { link.old.read_failed ≡ false }
-    requires writable { link.old.write_failed ≡ false }
+    requires readable { io.old.link.read_failed ≡ false }
+    requires writable { io.old.link.write_failed ≡ false }
     ensures ends { (why : Option FollowFault)
         × (result.0 ≡ status_of_follow (C.missed result.1).count why)
-        × TellsCaused E.takes E.failed (ending_of why) err.old err.new
-        × ((why ≡ Some follow.Read) ↔ (link.new.read_failed ≡ true))
-        × ((why ≡ Some follow.Write) ↔ (link.new.write_failed ≡ true))
-        × IfSome why IsOfFollowing
-        × (C.is_honest result.1 → C.serves store →
-        FollowsReported C.holds C.place C.reopens C.serves C.missed L
-        (R.remaining link.old.reader) (R.remaining link.new.reader) link.new.reads
-        (W.contents link.old.writer) (W.contents link.new.writer) limits version store result.1
-        why) }
-    ensures honest { C.is_honest result.1 → C.is_honest store }
+        × TellsCaused E.takes E.failed (ending_of why) io.old.err io.new.err
+        × ((why ≡ Some follow.Read) ↔ (io.new.link.read_failed ≡ true))
+        × ((why ≡ Some follow.Write) ↔ (io.new.link.write_failed ≡ true))
+        × IfSome why (IsOfFollowingOver (may_fail_over spool))
+        × (IsReadBack spool io.new.honesty → C.is_honest result.1 → C.serves store →
+        FollowsReported C.holds C.place C.reopens C.serves C.missed L spool
+        (R.remaining io.old.link.reader) (R.remaining io.new.link.reader) io.new.link.reads
+        (W.contents io.old.link.writer) (W.contents io.new.link.writer) limits version store
+        result.1 io.new.honesty why) }
+    ensures honest { IsReadBack spool io.new.honesty → C.is_honest result.1 → C.is_honest store }
 {
     let reported = Reported::new(store, listener);
-    let (status, reported) = run_follow(alloc, reported, limits, version, link, clock, err);
+    let (status, reported) = run_buffered(alloc, reported, spool, limits, version, io);
     (status, reported.into_store())
 }
 
@@ -76,43 +78,41 @@ pub fn follow_recorded<
     C: LedgerStore + Drop,
     G: Ledger + Supposing + Drop,
     L: Listener + Drop,
+    D: Disk + Drop,
     R: Read + Drop,
     W: Write + Drop,
-    K: Clock,
-    E: Output,
+    K: Clock + Drop,
+    E: Output + Drop,
 >(
     alloc: Global,
     store: C,
     ledger: G,
     listener: L,
+    spool: Option<SpoolFile<D>>,
     limits: Limits,
     version: Version,
-    link: &mut Link<R, W>,
-    clock: &mut K,
-    err: &mut E,
+    io: &mut LiveIo<R, W, K, E>,
 ) -> (u8, C, G)
-    requires readable { link.old.read_failed ≡ false }
-    requires writable { link.old.write_failed ≡ false }
+    requires readable { io.old.link.read_failed ≡ false }
+    requires writable { io.old.link.write_failed ≡ false }
     ensures ends { (why : Option FollowFault)
         × (result.0 ≡ status_of_follow (C.missed result.1).count why)
-        × TellsCaused E.takes E.failed (ending_of why) err.old err.new
-        × ((why ≡ Some follow.Read) ↔ (link.new.read_failed ≡ true))
-        × ((why ≡ Some follow.Write) ↔ (link.new.write_failed ≡ true))
-        × IfSome why IsOfFollowing
-        × (C.is_honest result.1 → C.serves store →
+        × TellsCaused E.takes E.failed (ending_of why) io.old.err io.new.err
+        × ((why ≡ Some follow.Read) ↔ (io.new.link.read_failed ≡ true))
+        × ((why ≡ Some follow.Write) ↔ (io.new.link.write_failed ≡ true))
+        × IfSome why (IsOfFollowingOver (may_fail_over spool))
+        × (IsReadBack spool io.new.honesty → C.is_honest result.1 → C.serves store →
         FollowsReported (HoldsBoth C.holds C.place C.reach G.supposed G.begins G.keeps G.outlasts
         G.is_stuck) (λ r. C.place r.store) (ReopensBoth C.place C.reopens G.supposed G.reopens)
-        (λ r. C.serves r.store)
-        (λ r. C.missed r.store) L (R.remaining link.old.reader) (R.remaining link.new.reader)
-        link.new.reads (W.contents link.old.writer) (W.contents link.new.writer) limits version
+        (λ r. C.serves r.store) (λ r. C.missed r.store) L spool
+        (R.remaining io.old.link.reader) (R.remaining io.new.link.reader) io.new.link.reads
+        (W.contents io.old.link.writer) (W.contents io.new.link.writer) limits version
         (record { store = store; ledger = ledger })
-        (record { store = result.1; ledger = result.2 }) why) }
-    ensures honest { C.is_honest result.1 → C.is_honest store }
+        (record { store = result.1; ledger = result.2 }) io.new.honesty why) }
+    ensures honest { IsReadBack spool io.new.honesty → C.is_honest result.1 → C.is_honest store }
 {
     let followed = Recorded::new(store, ledger);
-    let (status, followed) = follow_reported(
-        alloc, followed, listener, limits, version, link, clock, err,
-    );
+    let (status, followed) = follow_reported(alloc, followed, listener, spool, limits, version, io);
     let (store, ledger) = followed.into_parts();
     (status, store, ledger)
 }

@@ -19,15 +19,16 @@ returns-clause-ends g c =
       e.3,
       e.4,
       e.5,
-      λ honest serves. along (λ (old new : Recorded g.row.C.Denot g.row.G.Denot).
+      λ whole honest serves. along (λ (old new : Recorded g.row.C.Denot g.row.G.Denot).
           FollowsReported (HoldsBoth s.holds s.place s.reach g.G.Supposing.supposed l.begins l.keeps l.outlasts l.is_stuck)
           (λ r. s.place r.store)
           (ReopensBoth s.place s.reopens g.G.Supposing.supposed l.reopens) (λ r. s.serves r.store) (λ r. s.missed r.store) g.row.L.Denot
-          (g.R.Read.remaining c.args.link.now.reader) (g.R.Read.remaining done.new.link.reader) done.new.link.reads
-          (g.W.Write.contents c.args.link.now.writer) (g.W.Write.contents done.new.link.writer) c.args.limits c.args.version old new e.0)
+          c.args.spool (g.R.Read.remaining c.args.io.now.link.reader) (g.R.Read.remaining done.new.io.link.reader) done.new.io.link.reads
+          (g.W.Write.contents c.args.io.now.link.writer) (g.W.Write.contents done.new.io.link.writer) c.args.limits c.args.version old new
+          done.new.io.honesty e.0)
           begun.result done.result.1
           (of_parts begun.result c.args.store c.args.ledger begun.ensures.store begun.ensures.ledger)
           (of_parts done.result.1 parts.result.0 parts.result.1 (sym parts.ensures.store) (sym parts.ensures.ledger))
-          (e.6 (subst (λ (it : g.row.C.Denot). s.is_honest it) parts.ensures.store honest)
+          (e.6 whole (subst (λ (it : g.row.C.Denot). s.is_honest it) parts.ensures.store honest)
           (subst (λ (it : g.row.C.Denot). s.serves it) (sym begun.ensures.store) serves)),
     )
