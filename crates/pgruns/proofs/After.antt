@@ -6,9 +6,7 @@ use Rattle.pgapply.specs.Value.{Tables}
 use Rattle.pgapply.specs.declared.fault.StoreFault.{StoreFault}
 use Rattle.pgload.specs.declared.fault.InputFault.{InputFault}
 use Rattle.pgload.specs.declared.fault.InputFault.TheVariants.{CutInput, Load, Read}
-use Rattle.pgload.specs.declared.fault.LoadFault.{LoadFault}
 use Rattle.pgload.specs.declared.fault.LoadFault.TheVariants as load
-use Rattle.pgwire.specs.declared.fault.WireFault.{WireFault}
 use Rattle.pgwire.specs.declared.fault.WireFault.TheVariants as wire
 use Rattle.pgapply.specs.declared.fault.StoreFault.TheVariants as store
 use Rattle.pgruns.specs.declared.load_plan.LoadPlan.{LoadPlan}

@@ -19,7 +19,8 @@ use Rattle.pgsub_cli.specs.declared.fault.Ending.{Ending}
 use Rattle.pgsub_cli.specs.declared.fault.RunFault.{RunFault}
 use Rattle.pgsub_cli.specs.declared.storing.Incoming.{Incoming}
 use Rattle.pgruns.specs.declared.fed.FeedPlan.{FeedPlan}
-use Rattle.pgruns.specs.Filed.{FollowsTold, position_of}
+use Rattle.pgspooled.specs.declared.honesty.Honesty.{Honesty}
+use Rattle.pgruns.specs.Filed.{FollowsTold, IsKept, position_of}
 use Rattle.pgruns.specs.Recorded.{Applies, FollowsRecorded, HoldsRecorded, ReopensRecorded}
 
 -- ---- why no feed is opened
@@ -75,16 +76,20 @@ module _ {F D : Type 0} (seen : D → List ℕ) (may_leave : D → List ℕ → 
     -- A server was followed over the opened store: where no feed was asked for, over that alone,
     -- and else with the feed that was opened beside it, as `opens` says. Then the same is said of
     -- the store; and of the feed's entries where that is so which is supposed of its folder.
-    abbrev pub FollowsBeside : (L : Type 0) → Option (List ℕ) → Option (List ℕ) → ℕ → Option (List ℕ) → Option (List ℕ) → Limits → Version
-        → Option FollowFault → StoreValue S → StoreValue S → Option P → Option (Feed F D) → Type 0
-    FollowsBeside L unread rest reads wrote wrote' limits version why opened ended None kept =
-        (kept ≡ None) × (IsHonest g ended → FollowsTold g L unread rest reads wrote wrote' limits version opened ended why)
-    FollowsBeside L unread rest reads wrote wrote' limits version why opened ended (Some plan) None = ⊥
-    FollowsBeside L unread rest reads wrote wrote' limits version why opened ended (Some plan) (Some feed) =
+    abbrev pub FollowsBeside : {M : Type 0} → (L : Type 0) → Option M → Option (List ℕ) → Option (List ℕ) → ℕ → Option (List ℕ)
+        → Option (List ℕ) → Limits → Version → Option FollowFault → StoreValue S → StoreValue S → Honesty → Option P → Option (Feed F D)
+        → Type 0
+    FollowsBeside L spool unread rest reads wrote wrote' limits version why opened ended honesty None kept =
+        (kept ≡ None)
+        × (IsKept g spool honesty ended
+        → FollowsTold g L spool unread rest reads wrote wrote' limits version opened ended honesty why)
+    FollowsBeside L spool unread rest reads wrote wrote' limits version why opened ended honesty (Some plan) None = ⊥
+    FollowsBeside L spool unread rest reads wrote wrote' limits version why opened ended honesty (Some plan) (Some feed) =
         (begun : Feed F D) × opens plan opened.position begun
-        × (IsHonest g ended → FollowsRecorded g supposed told_from (KeepsRest seen may_leave is_clean is_true places has)
-        (LastsFrom seen may_leave is_clean is_true places has) is_stuck_feed (ReopensAt seen may_leave is_clean is_true places has) L
-        unread rest reads wrote wrote' limits version opened begun ended feed why)
+        × (IsKept g spool honesty ended
+        → FollowsRecorded g supposed told_from (KeepsRest seen may_leave is_clean is_true places has)
+        (LastsFrom seen may_leave is_clean is_true places has) is_stuck_feed (ReopensAt seen may_leave is_clean is_true places has) L spool
+        unread rest reads wrote wrote' limits version opened begun ended feed honesty why)
 
     module _ {R W : Type 0} (gives starts : R → List ℕ → Type 0) (unread : R → Type 0) (takes : W → List ℕ → W → Type 0)
         (failed : W → Type 0) where

@@ -28,7 +28,8 @@ use Rattle.pgsub_cli.specs.declared.fault.Ending.TheVariants.{Done}
 use Rattle.pgsub_cli.specs.declared.fault.RunFault.{RunFault}
 use Rattle.pgsub_cli.specs.declared.fault.RunFault.TheVariants as run
 use Rattle.pgsub_cli.specs.declared.reported.Reported.{Reported}
-use Rattle.pgsub_cli.specs.FollowedLive.{FollowsOver}
+use Rattle.pgspooled.specs.declared.honesty.Honesty.{Honesty}
+use Rattle.pgsub_cli.specs.FollowedLive.{FollowsBuffered, IsReadBack}
 use Rattle.pgsub_cli.specs.Runs.{Tells}
 
 -- ---- how a run ends whose store is closed
@@ -60,14 +61,18 @@ abbrev pub position_of : {S : Type 0} → StoreValue S → ℕ
 position_of store = store.position
 
 module _ {S : Type 0} (g : Ghosts S) where
-  -- `FollowsOver`, of a store that tells a listener of each settling
-  abbrev pub FollowsTold : (L : Type 0) → Option (List ℕ) → Option (List ℕ) → ℕ → Option (List ℕ) → Option (List ℕ) → Limits → Version
-      → StoreValue S → StoreValue S → Option FollowFault → Type 0
-  FollowsTold L unread rest reads wrote wrote' limits version opened ended why =
+  -- It is honest, and what was read of the spools' file, where one is named, is what was written.
+  abbrev pub IsKept : {P : Type 0} → Option P → Honesty → StoreValue S → Type 0
+  IsKept spool honesty store = IsReadBack spool honesty × IsHonest g store
+
+  -- `FollowsBuffered`, of a store that tells a listener of each settling
+  abbrev pub FollowsTold : {P : Type 0} → (L : Type 0) → Option P → Option (List ℕ) → Option (List ℕ) → ℕ → Option (List ℕ)
+      → Option (List ℕ) → Limits → Version → StoreValue S → StoreValue S → Honesty → Option FollowFault → Type 0
+  FollowsTold L spool unread rest reads wrote wrote' limits version opened ended honesty why =
       (told : Reported (StoreValue S) L) × (last : Reported (StoreValue S) L) × (told.store ≡ opened) × (last.store ≡ ended)
-      × FollowsOver {C = Reported (StoreValue S) L} (λ r. HasTables g r.store) (λ r. r.store.position)
+      × FollowsBuffered {C = Reported (StoreValue S) L} (λ r. HasTables g r.store) (λ r. r.store.position)
       (λ r other. Reopens g g r.store other.store) (λ r. Serves g r.store)
-      (λ r. r.store.group.missed) unread rest reads wrote wrote' limits version told last why
+      (λ r. r.store.group.missed) spool unread rest reads wrote wrote' limits version told last honesty why
 
   -- a crash of the one store leaves nothing that it couldn't leave of the other
   abbrev pub LeavesNothingNew : StoreValue S → StoreValue S → Type 0
@@ -92,14 +97,15 @@ module _ {D : Type 0} {g : disk.Ghosts D} where
   fault_of_closing (Err e) = Some e.0
 
   -- A run over files that had this content: a store that holds what is stored in them was opened,
-  -- if the disks gave back what was written until the run had ended, and had counted no change
-  -- without a row; the run led from it to another; and that one was closed.
-  pub record RunsInFiles (content : Image) (leads : StoreValue (FileStore D g) → StoreValue (FileStore D g) → Type 0)
+  -- if the disks gave back what was written until the run had ended, as this says of its store, and
+  -- had counted no change without a row; the run led from it to another; and that one was closed.
+  pub record RunsInFiles (kept : StoreValue (FileStore D g) → Type 0) (content : Image)
+      (leads : StoreValue (FileStore D g) → StoreValue (FileStore D g) → Type 0)
       (closing : Result (Files D) (StoreFault × FileStore D g)) : Type 0 where
     pub opened : StoreValue (FileStore D g)
     pub ended : StoreValue (FileStore D g)
-    pub found : IsHonest over_files ended → HoldsContent over_files content opened
-    pub serves : IsHonest over_files ended → Serves over_files opened
+    pub found : kept ended → HoldsContent over_files content opened
+    pub serves : kept ended → Serves over_files opened
     pub unmissed : opened.group.missed ≡ nothing_missed
     pub run : leads opened ended
     pub closes : ClosesTo ended closing

@@ -15,7 +15,8 @@ use Rattle.pgsub_cli.specs.declared.fault.Ending.{Ending}
 use Rattle.pgsub_cli.specs.declared.fault.RunFault.{RunFault}
 use Rattle.pgsub_cli.specs.declared.reported.Reported.{Reported}
 use Rattle.pgsub_cli.specs.declared.storing.Incoming.{Incoming}
-use Rattle.pgsub_cli.specs.FollowedLive.{FollowsOver}
+use Rattle.pgspooled.specs.declared.honesty.Honesty.{Honesty}
+use Rattle.pgsub_cli.specs.FollowedLive.{FollowsBuffered}
 use Rattle.pgsub_cli.specs.StoreAfter.{HoldsAfter, LosesNothing, MayBeLeft}
 use Rattle.pgsub_cli.specs.Storing.{PrintsOver}
 
@@ -34,15 +35,17 @@ module _ {S G : Type 0} (g : Ghosts S) where
         HasTables g r.store tables
         × (supposed → Records begins keeps outlasts is_stuck r.ledger tables r.store.position r.store.group.reach)
 
-    -- `FollowsOver`, of a store with its ledger that tells a listener of each settling
-    abbrev pub FollowsRecorded : (G → ℕ → G → Type 0) → (L : Type 0) → Option (List ℕ) → Option (List ℕ) → ℕ → Option (List ℕ)
-        → Option (List ℕ) → Limits → Version → StoreValue S → G → StoreValue S → G → Option FollowFault → Type 0
-    FollowsRecorded reopens L unread rest reads wrote wrote' limits version opened begun ended left why =
+    -- `FollowsBuffered`, of a store with its ledger that tells a listener of each settling
+    abbrev pub FollowsRecorded : {P : Type 0} → (G → ℕ → G → Type 0) → (L : Type 0) → Option P → Option (List ℕ) → Option (List ℕ) → ℕ
+        → Option (List ℕ) → Option (List ℕ) → Limits → Version → StoreValue S → G → StoreValue S → G → Honesty → Option FollowFault
+        → Type 0
+    FollowsRecorded reopens L spool unread rest reads wrote wrote' limits version opened begun ended left honesty why =
         (told : Reported (Recorded (StoreValue S) G) L) × (last : Reported (Recorded (StoreValue S) G) L)
         × (told.store.store ≡ opened) × (told.store.ledger ≡ begun) × (last.store.store ≡ ended) × (last.store.ledger ≡ left)
-        × FollowsOver {C = Reported (Recorded (StoreValue S) G) L} (λ r. HoldsRecorded r.store) (λ r. r.store.store.position)
+        × FollowsBuffered {C = Reported (Recorded (StoreValue S) G) L} (λ r. HoldsRecorded r.store) (λ r. r.store.store.position)
         (λ r other. ReopensRecorded supposed reopens r.store other.store)
-        (λ r. Serves g r.store.store) (λ r. r.store.store.group.missed) unread rest reads wrote wrote' limits version told last why
+        (λ r. Serves g r.store.store) (λ r. r.store.store.group.missed) spool unread rest reads wrote wrote' limits version told last
+        honesty why
 
 -- What came was applied to the one, which led to the other: its lines were printed, and what it
 -- holds then, and what a crash may leave of it, is by what came.

@@ -8,22 +8,23 @@ ghost use Rattle.std.specs.Prelude.{⊤, IfSome};
 ghost use Rattle.pgfeed.specs.declared.fault.FeedFault.{FeedFault};
 ghost use Rattle.pgfollow.specs.declared.fault.FollowFault.{FollowFault};
 ghost use Rattle.pgfollow.specs.declared.fault.FollowFault.TheVariants as fault;
-ghost use Rattle.pgfollow.specs.Live.{IsOfFollowing};
+ghost use Rattle.pgfollow.specs.Live.{IsOfFollowingOver};
 ghost use Rattle.pgstore.specs.StoreValue.{IsHonest, Serves};
 ghost use Rattle.pgsub_cli.specs.declared.fault.Ending.{Ending};
 ghost use Rattle.pgsub_cli.specs.declared.fault.RunFault.{RunFault};
 ghost use Rattle.pgsub_cli.specs.Caused.{TellsCaused};
-ghost use Rattle.pgsub_cli.specs.FollowedLive.{ending_of};
+ghost use Rattle.pgsub_cli.specs.FollowedLive.{ending_of, may_fail_over};
 ghost use Rattle.pgsub_cli.specs.FollowStatus.{status_of_follow};
 ghost use Rattle.pgsub_cli.specs.Runs.{Tells, status_of};
 ghost use Rattle.pgruns.specs.Fed.{AppliesBeside, FollowsBeside, IsOpenedAt, IsRun, IsUnfed};
 ghost use Rattle.pgruns.specs.Fed.{TellsUnfed, status_of_unapplied, status_of_unfed};
+ghost use Rattle.pgruns.specs.Filed.{IsKept};
 
 use crate::load_plan::LoadPlan;
 use crate::opening::FeedOpening;
 use crate::telling::{tell_unapplied, tell_unfed};
 use pgfeed::{Feed, FeedFault, Folder, Origin, SegmentLimits};
-use pgfollow::{Clock, Link};
+use pgfollow::Clock;
 use pgledger::Supposing;
 use pglsn::Lsn;
 use pgorder::Version;
@@ -33,8 +34,9 @@ use pgsub_cli::over::{apply_recorded, follow_recorded, follow_reported};
 use pgsub_cli::reported::Listener;
 use pgsub_cli::reporting::Reporter;
 use pgsub_cli::storing::Incoming;
-use pgsub_cli::{Limits, run_opened};
+use pgsub_cli::{Limits, LiveIo, SpoolFile, run_opened};
 use sqlite::Alter;
+use sqlite_disk::Disk;
 use std::alloc::Global;
 use std::cell::RefCell;
 use std::io::{Read, Write};
@@ -53,28 +55,19 @@ pub struct FeedPlan<'a, D: Folder + Drop> {
 
 /// How a server is followed.
 #[derive(Drop)]
-pub struct FollowPlan<B: Drop, L: Listener + Drop> {
+pub struct FollowPlan<B: Drop, L: Listener + Drop, M: Disk + Drop> {
     /// What is loaded into the store before its server is followed, if anything.
     pub load: Option<LoadPlan>,
     /// The feed that is kept of what is stored, if any.
     pub feed: Option<B>,
+    /// Where the changes of open transactions go on that memory doesn't hold, if anywhere.
+    pub spool: Option<SpoolFile<M>>,
     /// What is told of each settling.
     pub listener: L,
     /// The limits of what is followed.
     pub limits: Limits,
     /// The version of the protocol.
     pub version: Version,
-}
-
-/// What following reads, writes and asks.
-#[derive(Drop)]
-pub struct LiveIo<R: Drop, W: Drop, K: Drop, E: Drop> {
-    /// The server.
-    pub link: Link<R, W>,
-    /// The times of statuses.
-    pub clock: K,
-    /// What faults are told to.
-    pub err: E,
 }
 
 /// What is applied.
@@ -112,6 +105,7 @@ pub(crate) fn follow_over<
     D: Folder + Supposing + Drop,
     B: FeedOpening<D> + Drop,
     L: Listener + Drop,
+    M: Disk + Drop,
     R: Read + Drop,
     W: Write + Drop,
     K: Clock + Drop,
@@ -119,7 +113,7 @@ pub(crate) fn follow_over<
 >(
     alloc: Global,
     store: Store<S>,
-    plan: FollowPlan<B, L>,
+    plan: FollowPlan<B, L, M>,
     io: &mut LiveIo<R, W, K, E>,
 ) -> (u8, Store<S>, Option<Feed<D>>)
     requires readable { io.old.link.read_failed ≡ false }
@@ -127,22 +121,24 @@ pub(crate) fn follow_over<
     ensures unfed { IsUnfed plan.feed result.2 → (f : FeedFault)
         × IfSome plan.feed (λ feed. B.fails feed f)
         × (result.0 ≡ status_of_unfed f) × (result.1 ≡ store) × (io.new.link ≡ io.old.link)
-        × TellsUnfed E.takes E.failed f io.old.err io.new.err }
+        × (io.new.honesty ≡ io.old.honesty) × TellsUnfed E.takes E.failed f io.old.err io.new.err }
     ensures ran { IsRun plan.feed result.2 → (why : Option FollowFault)
         × (result.0 ≡ status_of_follow result.1.group.missed.count why)
         × TellsCaused E.takes E.failed (ending_of why) io.old.err io.new.err
         × ((why ≡ Some fault.Read) ↔ (io.new.link.read_failed ≡ true))
         × ((why ≡ Some fault.Write) ↔ (io.new.link.write_failed ≡ true))
-        × IfSome why IsOfFollowing
-        × ((IsHonest S.Store result.1 → Serves S.Store store) → FollowsBeside D.File.seen
-        D.File.may_leave D.File.is_clean D.is_true D.places D.has D.supposed B.opens S.Store L
+        × IfSome why (IsOfFollowingOver (may_fail_over plan.spool))
+        × ((IsKept S.Store plan.spool io.new.honesty result.1 → Serves S.Store store) →
+        FollowsBeside D.File.seen D.File.may_leave D.File.is_clean D.is_true D.places D.has
+        D.supposed B.opens S.Store L plan.spool
         (R.remaining io.old.link.reader) (R.remaining io.new.link.reader) io.new.link.reads
         (W.contents io.old.link.writer) (W.contents io.new.link.writer) plan.limits
-        plan.version why store result.1 plan.feed result.2) }
-    ensures honest { IsHonest S.Store result.1 → IsHonest S.Store store }
+        plan.version why store result.1 io.new.honesty plan.feed result.2) }
+    ensures honest { IsKept S.Store plan.spool io.new.honesty result.1 → IsHonest S.Store store }
 {
     let FollowPlan {
         feed,
+        spool,
         listener,
         limits,
         version,
@@ -152,14 +148,7 @@ pub(crate) fn follow_over<
         Some(feed) => feed,
         None => {
             let (status, store) = follow_reported(
-                alloc,
-                store,
-                listener,
-                limits,
-                version,
-                &mut io.link,
-                &mut io.clock,
-                &mut io.err,
+                alloc, store, listener, spool, limits, version, io,
             );
             return (status, store, None);
         }
@@ -167,15 +156,7 @@ pub(crate) fn follow_over<
     match feed.open_feed(alloc, store.position()) {
         Ok(feed) => {
             let (status, store, feed) = follow_recorded(
-                alloc,
-                store,
-                feed,
-                listener,
-                limits,
-                version,
-                &mut io.link,
-                &mut io.clock,
-                &mut io.err,
+                alloc, store, feed, listener, spool, limits, version, io,
             );
             (status, store, Some(feed))
         }

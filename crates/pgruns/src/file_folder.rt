@@ -86,6 +86,24 @@ fn make_folder(rt: &HostRuntime, path: &str) -> io::Result<()> {
     File::open(rt, above)?.sync_all()
 }
 
+/// Makes a file that isn't there, for its owner alone.
+pub(crate) fn make_file(rt: &HostRuntime, path: &str) -> io::Result<()> {
+    OpenOptions::new()
+        .write(true)
+        .create_new(true)
+        .mode(FILE_MODE)
+        .open(rt, path)?;
+    Ok(())
+}
+
+/// The file at a path, locked. The log that the SQL library makes beside it goes again.
+pub(crate) fn open_file(rt: &HostRuntime, path: &str) -> Result<FileFrom<Unknown>, FeedFault> {
+    let log = format!(in rt.alloc(); "{path}-wal")?;
+    let files = sqlite_std_file::open(rt, path, Unknown).map_err(open_fault)?;
+    fs::remove_file(rt, log.as_str()).map_err(io_fault)?;
+    Ok(files.db)
+}
+
 /// A file that was opened, of which no sync has failed.
 fn usable<D: Disk + Drop>(file: D) -> Result<D, FeedFault>
     ensures { IfOk result (λ file. IsTrue (D.is_usable file)) }
@@ -159,14 +177,6 @@ impl<'r> FileFolder<'r> {
         }
         Ok(bases)
     }
-
-    /// The file at a path, locked. The log that the SQL library makes beside it goes again.
-    fn open_file(&self, path: &str) -> Result<FileFrom<Unknown>, FeedFault> {
-        let log = format!(in self.rt.alloc(); "{path}-wal")?;
-        let files = sqlite_std_file::open(self.rt, path, Unknown).map_err(open_fault)?;
-        fs::remove_file(self.rt, log.as_str()).map_err(io_fault)?;
-        Ok(files.db)
-    }
 }
 
 /// Of a feed in this folder no clause is said, as of its answers. So what is said of a run with one
@@ -198,19 +208,14 @@ impl Folder for FileFolder<'_> {
 
     fn open(&mut self, base: Lsn) -> Result<FileFrom<Unknown>, FeedFault> {
         let path = self.segment_path(base)?;
-        usable(self.open_file(path.as_str())?)
+        usable(open_file(self.rt, path.as_str())?)
     }
 
     fn make(&mut self) -> Result<FileFrom<Unknown>, FeedFault> {
         self.remove_left()?;
         let path = self.new_path()?;
-        OpenOptions::new()
-            .write(true)
-            .create_new(true)
-            .mode(FILE_MODE)
-            .open(self.rt, path.as_str())
-            .map_err(io_fault)?;
-        usable(self.open_file(path.as_str())?)
+        make_file(self.rt, path.as_str()).map_err(io_fault)?;
+        usable(open_file(self.rt, path.as_str())?)
     }
 
     fn name(&mut self, base: Lsn, _file: &FileFrom<Unknown>) -> Result<(), FeedFault> {

@@ -13,7 +13,7 @@ ghost use Rattle.pgapply.specs.declared.fault.StoreFault.{StoreFault};
 ghost use Rattle.pgfeed.specs.declared.fault.FeedFault.{FeedFault};
 ghost use Rattle.pgfollow.specs.declared.fault.FollowFault.{FollowFault};
 ghost use Rattle.pgfollow.specs.declared.fault.FollowFault.TheVariants as fault;
-ghost use Rattle.pgfollow.specs.Live.{IsOfFollowing};
+ghost use Rattle.pgfollow.specs.Live.{IsOfFollowingOver};
 ghost use Rattle.pgstore.specs.Reopened.{Reopens, StaysAsFound};
 ghost use Rattle.pgstore.specs.StoreValue.{HasTables, IsHonest, Serves};
 ghost use Rattle.pgsub_core.specs.declared.fault.Fault.TheVariants.{Store as OfStore};
@@ -22,19 +22,20 @@ ghost use Rattle.pgsub_cli.specs.declared.fault.RunFault.{RunFault};
 ghost use Rattle.pgsub_cli.specs.declared.fault.RunFault.TheVariants.{Stream};
 ghost use Rattle.pgsub_cli.specs.Caused.{TellsCaused};
 ghost use Rattle.pgsub_cli.specs.Dumped.{Dumps};
-ghost use Rattle.pgruns.specs.Filed.{LeavesNothingNew, RunsInFiles, TellsBoth, position_of};
-ghost use Rattle.pgruns.specs.Filed.{fault_of_closing, status_closed, status_of_unclosed};
+ghost use Rattle.pgruns.specs.Filed.{IsKept, LeavesNothingNew, RunsInFiles, TellsBoth};
+ghost use Rattle.pgruns.specs.Filed.{fault_of_closing, position_of, status_closed};
+ghost use Rattle.pgruns.specs.Filed.{status_of_unclosed};
 ghost use Rattle.pgruns.specs.Fed.{AppliesBeside, FollowsBeside, IsRun, IsUnfed, TellsUnfed};
 ghost use Rattle.pgruns.specs.Fed.{status_of_unapplied, status_of_unfed};
 ghost use Rattle.pgruns.specs.Loaded.{AfterLoad, KeepsLink, TellsUnloaded, Unloads};
 ghost use Rattle.pgruns.specs.Loaded.{status_of_unloaded};
-ghost use Rattle.pgsub_cli.specs.FollowedLive.{ending_of};
+ghost use Rattle.pgsub_cli.specs.FollowedLive.{ending_of, may_fail_over};
 ghost use Rattle.pgsub_cli.specs.FollowStatus.{status_of_follow, status_of_unfollowed};
 ghost use Rattle.pgsub_cli.specs.Runs.{Tells, status_of};
 ghost use Rattle.pgsub_cli.specs.Storing.{status_of_unopened};
 
 use crate::closing::{Closing, close_told, followed_status, run_status};
-use crate::fed::{ApplyPlan, FollowPlan, LiveIo, apply_over};
+use crate::fed::{ApplyPlan, FollowPlan, apply_over};
 use crate::loaded::follow_loaded;
 use crate::opening::{FeedOpening, Opening};
 use crate::session_reader::SessionReader;
@@ -46,9 +47,10 @@ use pgstore::Store;
 use pgsub_cli::files::{Input, Output};
 use pgsub_cli::following::tell_unfollowed;
 use pgsub_cli::reported::Listener;
-use pgsub_cli::run_dump;
 use pgsub_cli::storing::tell_unopened;
+use pgsub_cli::{LiveIo, run_dump};
 use sqlite::{Alter, Connection, FileFrom, FileStore, Start};
+use sqlite_disk::Disk;
 use std::alloc::Global;
 use std::io::Write;
 use std::time::Clock as Ticks;
@@ -101,6 +103,7 @@ pub fn follow<
     D: Folder + Supposing + Drop,
     B: FeedOpening<D> + Drop,
     L: Listener + Drop,
+    M: Disk + Drop,
     R: SessionReader + Drop,
     W: Write + Drop,
     K: Clock + Drop,
@@ -108,7 +111,7 @@ pub fn follow<
 >(
     alloc: Global,
     opening: O,
-    plan: FollowPlan<B, L>,
+    plan: FollowPlan<B, L, M>,
     io: &mut LiveIo<R, W, K, E>,
 ) -> (u8, Filed<FileFrom<F>>, Option<Feed<D>>, Option<InputFault>)
     requires readable { io.old.link.read_failed ≡ false }
@@ -120,19 +123,22 @@ pub fn follow<
         StaysAsFound over_files (image_at F.Start) conn)) }
     ensures unloaded { IfSome result.3 (λ why. IfOk result.1 (λ closing.
         (result.0 ≡ status_of_unloaded why) × (result.2 ≡ None)
-        × KeepsLink plan.load io.old.link io.new.link
+        × KeepsLink plan.load io.old.link io.new.link × (io.new.honesty ≡ io.old.honesty)
         × TellsBoth E.takes E.failed (TellsUnloaded E.takes E.failed why)
         (fault_of_closing closing) io.old.err io.new.err
-        × RunsInFiles (image_at F.Start) (λ opened ended. Unloads (HasTables over_files)
+        × RunsInFiles (IsKept over_files plan.spool io.new.honesty) (image_at F.Start)
+        (λ opened ended. Unloads (HasTables over_files)
         position_of (Reopens over_files over_files) (Serves over_files) (IsHonest over_files)
         plan.load (R.remaining io.old.link.reader) (R.remaining io.new.link.reader) opened ended
         why) closing)) }
     ensures unfed { result.3 ≡ None → IsUnfed plan.feed result.2 → IfOk result.1 (λ closing.
         (f : FeedFault) × IfSome plan.feed (λ feed. B.fails feed f)
         × (result.0 ≡ status_of_unfed f) × KeepsLink plan.load io.old.link io.new.link
+        × (io.new.honesty ≡ io.old.honesty)
         × TellsBoth E.takes E.failed (TellsUnfed E.takes E.failed f) (fault_of_closing closing)
         io.old.err io.new.err
-        × RunsInFiles (image_at F.Start) (λ opened ended. AfterLoad (HasTables over_files)
+        × RunsInFiles (IsKept over_files plan.spool io.new.honesty) (image_at F.Start)
+        (λ opened ended. AfterLoad (HasTables over_files)
         position_of (Reopens over_files over_files) (Serves over_files) (IsHonest over_files)
         plan.load (R.remaining io.old.link.reader) opened (λ rest loaded.
         (rest ≡ R.remaining io.new.link.reader) × (loaded ≡ ended))) closing) }
@@ -142,17 +148,18 @@ pub fn follow<
         (fault_of_closing closing) io.old.err io.new.err
         × ((why ≡ Some fault.Read) ↔ (io.new.link.read_failed ≡ true))
         × ((why ≡ Some fault.Write) ↔ (io.new.link.write_failed ≡ true))
-        × IfSome why IsOfFollowing
-        × RunsInFiles (image_at F.Start) (λ opened ended.
+        × IfSome why (IsOfFollowingOver (may_fail_over plan.spool))
+        × RunsInFiles (IsKept over_files plan.spool io.new.honesty) (image_at F.Start)
+        (λ opened ended.
         (result.0 ≡ status_closed status_of_unclosed (status_of_follow ended.group.missed.count why)
         (fault_of_closing closing)) × AfterLoad (HasTables over_files) position_of
         (Reopens over_files over_files) (Serves over_files) (IsHonest over_files) plan.load
         (R.remaining io.old.link.reader) opened (λ rest loaded.
         FollowsBeside D.File.seen D.File.may_leave D.File.is_clean
-        D.is_true D.places D.has D.supposed B.opens over_files L rest
+        D.is_true D.places D.has D.supposed B.opens over_files L plan.spool rest
         (R.remaining io.new.link.reader) io.new.link.reads (W.contents io.old.link.writer)
         (W.contents io.new.link.writer) plan.limits plan.version why loaded ended
-        plan.feed result.2)) closing) }
+        io.new.honesty plan.feed result.2)) closing) }
 {
     match opening.open(alloc) {
         Ok(store) => {
@@ -204,15 +211,17 @@ pub fn apply<
         × (result.0 ≡ status_of_unapplied f) × (out.new ≡ out.old)
         × TellsBoth E.takes E.failed (TellsUnfed E.takes E.failed f) (fault_of_closing closing)
         err.old err.new
-        × RunsInFiles (image_at F.Start) (λ opened ended. ended ≡ opened) closing) }
+        × RunsInFiles (IsHonest over_files) (image_at F.Start)
+        (λ opened ended. ended ≡ opened) closing) }
     ensures ran { IsRun plan.entry.feed result.2 → IfOk result.1 (λ closing.
         (why : Result Ending RunFault)
         × (result.0 ≡ status_closed status_of_unopened (status_of why) (fault_of_closing closing))
         × TellsBoth E.takes E.failed (Tells E.takes E.failed [] [] why)
         (fault_of_closing closing) err.old err.new
-        × RunsInFiles (image_at F.Start) (λ opened ended. AppliesBeside D.File.seen
-        D.File.may_leave D.File.is_clean D.is_true D.places D.has D.supposed B.opens over_files
-        R.gives R.begins R.failed W.takes W.failed plan.entry.limits plan.entry.input why out.old
+        × RunsInFiles (IsHonest over_files) (image_at F.Start)
+        (λ opened ended. AppliesBeside D.File.seen D.File.may_leave D.File.is_clean
+        D.is_true D.places D.has D.supposed B.opens over_files R.gives
+        R.begins R.failed W.takes W.failed plan.entry.limits plan.entry.input why out.old
         out.new opened ended plan.entry.feed result.2) closing) }
 {
     match opening.open(alloc) {
@@ -243,7 +252,7 @@ pub fn dump<F: Start, O: Opening<F>, W: Output + Drop, E: Output>(
         × (result.0 ≡ status_closed status_of_unopened (status_of why) (fault_of_closing closing))
         × TellsBoth E.takes E.failed (Tells E.takes E.failed [] [] why)
         (fault_of_closing closing) err.old err.new
-        × RunsInFiles (image_at F.Start) (λ opened ended.
+        × RunsInFiles (IsHonest over_files) (image_at F.Start) (λ opened ended.
         (IsHonest over_files ended → (tables : Tables) → HasTables over_files opened tables →
         Dumps W.takes W.failed (lines_of tables) opened.position out result.2 why)
         × (Serves over_files ended → Stays (HasTables over_files) opened ended)

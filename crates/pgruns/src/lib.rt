@@ -17,13 +17,15 @@ mod loaded;
 mod new_file;
 mod opening;
 mod session_reader;
+mod spooling;
 mod telling;
 
 pub use closing::Closing;
-pub use fed::{ApplyPlan, FeedPlan, FollowPlan, LiveIo};
+pub use fed::{ApplyPlan, FeedPlan, FollowPlan};
 pub use file_folder::FileFolder;
 pub use filed::{Filed, apply, dump, follow};
 pub use laws::new_files_are_empty;
 pub use load_plan::LoadPlan;
 pub use opening::{AsLeft, FeedOpening, LeftUnopened, Opening, StoreFile, TrustedFile};
 pub use session_reader::SessionReader;
+pub use spooling::{make_spool, tell_unspooled};

@@ -7,18 +7,18 @@ ghost use Rattle.std.specs.Prelude.{◌≡◌, ◌↔◌, false, true, None, Opt
 ghost use Rattle.pgfeed.specs.declared.fault.FeedFault.{FeedFault};
 ghost use Rattle.pgfollow.specs.declared.fault.FollowFault.{FollowFault};
 ghost use Rattle.pgfollow.specs.declared.fault.FollowFault.TheVariants as fault;
-ghost use Rattle.pgfollow.specs.Live.{IsOfFollowing};
+ghost use Rattle.pgfollow.specs.Live.{IsOfFollowingOver};
 ghost use Rattle.pgstore.specs.Reopened.{Reopens};
 ghost use Rattle.pgstore.specs.StoreValue.{HasTables, IsHonest, Serves};
 ghost use Rattle.pgsub_cli.specs.Caused.{TellsCaused};
-ghost use Rattle.pgsub_cli.specs.FollowedLive.{ending_of};
+ghost use Rattle.pgsub_cli.specs.FollowedLive.{ending_of, may_fail_over};
 ghost use Rattle.pgsub_cli.specs.FollowStatus.{status_of_follow};
 ghost use Rattle.pgruns.specs.Fed.{FollowsBeside, IsRun, IsUnfed, TellsUnfed, status_of_unfed};
-ghost use Rattle.pgruns.specs.Filed.{position_of};
+ghost use Rattle.pgruns.specs.Filed.{IsKept, position_of};
 ghost use Rattle.pgruns.specs.Loaded.{AfterLoad, IsBegun, KeepsLink, KeepsReader, TellsUnloaded};
 ghost use Rattle.pgruns.specs.Loaded.{Unloads, status_of_unloaded};
 
-use crate::fed::{FollowPlan, LiveIo, follow_over};
+use crate::fed::{FollowPlan, follow_over};
 use crate::load_plan::LoadPlan;
 use crate::opening::FeedOpening;
 use crate::session_reader::SessionReader;
@@ -29,9 +29,11 @@ use pgfollow::Clock;
 use pgledger::Supposing;
 use pgload::{InputFault, load_from};
 use pgstore::Store;
+use pgsub_cli::LiveIo;
 use pgsub_cli::files::Output;
 use pgsub_cli::reported::Listener;
 use sqlite::Alter;
+use sqlite_disk::Disk;
 use std::alloc::Global;
 use std::io::Write;
 
@@ -92,6 +94,7 @@ pub(crate) fn follow_loaded<
     D: Folder + Supposing + Drop,
     B: FeedOpening<D> + Drop,
     L: Listener + Drop,
+    M: Disk + Drop,
     R: SessionReader + Drop,
     W: Write + Drop,
     K: Clock + Drop,
@@ -99,13 +102,14 @@ pub(crate) fn follow_loaded<
 >(
     alloc: Global,
     store: Store<S>,
-    plan: FollowPlan<B, L>,
+    plan: FollowPlan<B, L, M>,
     io: &mut LiveIo<R, W, K, E>,
 ) -> (u8, Store<S>, Option<Feed<D>>, Option<InputFault>)
     requires readable { io.old.link.read_failed ≡ false }
     requires writable { io.old.link.write_failed ≡ false }
     ensures unloaded { IfSome result.3 (λ why. (result.0 ≡ status_of_unloaded why)
         × (result.2 ≡ None) × KeepsLink plan.load io.old.link io.new.link
+        × (io.new.honesty ≡ io.old.honesty)
         × TellsUnloaded E.takes E.failed why io.old.err io.new.err
         × Unloads (HasTables S.Store) position_of (Reopens S.Store S.Store) (Serves S.Store)
         (IsHonest S.Store) plan.load (R.remaining io.old.link.reader)
@@ -113,6 +117,7 @@ pub(crate) fn follow_loaded<
     ensures unfed { result.3 ≡ None → IsUnfed plan.feed result.2 → (f : FeedFault)
         × IfSome plan.feed (λ feed. B.fails feed f)
         × (result.0 ≡ status_of_unfed f) × KeepsLink plan.load io.old.link io.new.link
+        × (io.new.honesty ≡ io.old.honesty)
         × TellsUnfed E.takes E.failed f io.old.err io.new.err
         × AfterLoad (HasTables S.Store) position_of (Reopens S.Store S.Store) (Serves S.Store)
         (IsHonest S.Store) plan.load (R.remaining io.old.link.reader) store (λ rest loaded.
@@ -122,15 +127,15 @@ pub(crate) fn follow_loaded<
         × TellsCaused E.takes E.failed (ending_of why) io.old.err io.new.err
         × ((why ≡ Some fault.Read) ↔ (io.new.link.read_failed ≡ true))
         × ((why ≡ Some fault.Write) ↔ (io.new.link.write_failed ≡ true))
-        × IfSome why IsOfFollowing
-        × ((IsHonest S.Store result.1 → Serves S.Store store) →
+        × IfSome why (IsOfFollowingOver (may_fail_over plan.spool))
+        × ((IsKept S.Store plan.spool io.new.honesty result.1 → Serves S.Store store) →
         AfterLoad (HasTables S.Store) position_of (Reopens S.Store S.Store) (Serves S.Store)
         (IsHonest S.Store) plan.load (R.remaining io.old.link.reader) store (λ rest loaded.
         FollowsBeside D.File.seen D.File.may_leave D.File.is_clean D.is_true D.places D.has
-        D.supposed B.opens S.Store L rest (R.remaining io.new.link.reader) io.new.link.reads
-        (W.contents io.old.link.writer) (W.contents io.new.link.writer) plan.limits
-        plan.version why loaded result.1 plan.feed result.2)) }
-    ensures honest { IsHonest S.Store result.1 → IsHonest S.Store store }
+        D.supposed B.opens S.Store L plan.spool rest (R.remaining io.new.link.reader)
+        io.new.link.reads (W.contents io.old.link.writer) (W.contents io.new.link.writer)
+        plan.limits plan.version why loaded result.1 io.new.honesty plan.feed result.2)) }
+    ensures honest { IsKept S.Store plan.spool io.new.honesty result.1 → IsHonest S.Store store }
 {
     let (unloaded, store) = load_first(alloc, store, plan.load, &mut io.link.reader);
     match unloaded {

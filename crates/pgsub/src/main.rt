@@ -18,16 +18,19 @@ use pgorder::Version;
 use pgpast::{Comparing, FirstStatus, Notes, NotesFault, PlainFile, RepeatLines};
 use pgrules::Guarded;
 use pgruns::{
-    ApplyPlan, FeedPlan, FileFolder, Filed, FollowPlan, LiveIo, LoadPlan, SessionReader, StoreFile,
-    TrustedFile, apply, dump, follow,
+    ApplyPlan, FeedPlan, FileFolder, Filed, FollowPlan, LoadPlan, SessionReader, StoreFile,
+    TrustedFile, apply, dump, follow, make_spool, tell_unspooled,
 };
+use pgspool::SpoolFault;
+use pgspooled::Honesty;
 use pgsub_cli::fault::RunFault;
 use pgsub_cli::reporting::Reporter;
 use pgsub_cli::storing::{Incoming, read_input, tell_stopped};
-use pgsub_cli::{MissedLines, WatchLines, live_watch, store_path};
+use pgsub_cli::{LiveIo, MissedLines, SpoolFile, WatchLines, live_watch, store_path};
 use pgsub_core::Side;
 use pgtasks::{run, run_in_memory};
 use sqlite::{FileFrom, Start, Unknown};
+use sqlite_disk::Disk;
 use std::alloc::AllocError;
 use std::cell::{Cell, RefCell};
 use std::fs::File;
@@ -241,6 +244,42 @@ fn feed_of<'a>(rt: &'a HostRuntime, task: &'a Task) -> Option<FeedPlan<'a, FileF
     })
 }
 
+/// The file in which the changes of open transactions go on of the server that a task follows, if
+/// it names one.
+fn spool_of(
+    rt: &HostRuntime,
+    task: &Task,
+) -> Result<Option<SpoolFile<FileFrom<Unknown>>>, SpoolFault> {
+    let Task::Follow {
+        store,
+        spool: Some(spool),
+        repeats,
+        ..
+    } = task
+    else {
+        return Ok(None);
+    };
+    let store = store.as_str();
+    // where no commits are noted, the store's file stands for theirs too
+    let noted = match repeats {
+        Some(file) => file.as_str(),
+        None => store,
+    };
+    let others = [store, noted];
+    Ok(Some(make_spool(rt, spool.file.as_str(), &others, spool.memory)?))
+}
+
+/// Removes that file, at the end of a run. What can't be removed is lost at the next start.
+fn remove_spool(rt: &HostRuntime, task: &Task) {
+    if let Task::Follow {
+        spool: Some(spool),
+        ..
+    } = task
+    {
+        let _ = fs::remove_file(rt, spool.file.as_str());
+    }
+}
+
 /// Applies what a task names to the store in the file at a path. That is read before the store is
 /// opened. A feed's folder is of any kind: a proof over the folder's own asks for what holds of
 /// each of its parts.
@@ -320,21 +359,31 @@ impl Clock for SystemClock<'_> {
     }
 }
 
+/// What is kept beside the store over which a server is followed: a feed, and the changes of open
+/// transactions that memory doesn't hold. Folder and disk are of any kind, as in `run_over`.
+#[derive(Drop)]
+struct Beside<'a, D: Folder + Drop, M: Disk + Drop> {
+    feed: Option<FeedPlan<'a, D>>,
+    spool: Option<SpoolFile<M>>,
+}
+
 /// Follows a server over the store in the file at a path: what it sends comes from the first of its
 /// two ends, after a load where one is asked for, and statuses go to the second one. Standard error
-/// is told of changes that found no row as soon as their commits are stored. A feed's folder is of
-/// any kind, as in `run_over`. Returns the exit status, and the ends.
-fn run_live<R: SessionReader + Drop, W: Write + Drop, D: Folder + Supposing + Drop>(
+/// is told of changes that found no row as soon as their commits are stored. Returns the exit
+/// status, and the ends.
+fn run_live<R: SessionReader + Drop, W: Write + Drop, D: Folder + Supposing + Drop, M: Disk + Drop>(
     rt: &HostRuntime,
     task: &Task,
     version: Version,
     (input, output): (R, W),
     path: &str,
-    feed: Option<FeedPlan<'_, D>>,
+    beside: Beside<'_, D, M>,
 ) -> (u8, Link<R, W>) {
+    let Beside { feed, spool } = beside;
     let plan = FollowPlan {
         load: load_of(task),
         feed,
+        spool,
         listener: MissedLines::new(rt.alloc(), rt.stderr()),
         limits: limits_of(task),
         version,
@@ -343,6 +392,7 @@ fn run_live<R: SessionReader + Drop, W: Write + Drop, D: Folder + Supposing + Dr
         link: Link::new(input, output),
         clock: SystemClock { rt },
         err: rt.stderr(),
+        honesty: Honesty::new(),
     };
     let file = store_file(rt, path, cache_of(task), true);
     if is_trusted(task) {
@@ -356,20 +406,20 @@ fn run_live<R: SessionReader + Drop, W: Write + Drop, D: Folder + Supposing + Dr
 
 /// The same, where the server is watched for the rules of a well-formed one, behind a load where
 /// one is asked for. Returns the exit status, and the ends, of which the first is watched.
-fn run_guarded<R: Read + Drop, W: Write + Drop, D: Folder + Supposing + Drop>(
+fn run_guarded<R: Read + Drop, W: Write + Drop, D: Folder + Supposing + Drop, M: Disk + Drop>(
     rt: &HostRuntime,
     task: &Task,
     (version, watching): (Version, Watching),
     (input, output): (R, W),
     path: &str,
-    feed: Option<FeedPlan<'_, D>>,
+    beside: Beside<'_, D, M>,
 ) -> Result<(u8, Link<Guarded<R, WatchLines<Stderr>>, W>), AllocError> {
     let watch = live_watch(rt.alloc(), version, limits_of(task));
     let lines = WatchLines::new(rt.alloc(), rt.stderr());
     let stops = watching == Watching::Stop;
     let waits = load_of(task).is_some();
     let input = Guarded::new(rt.alloc(), input, lines, watch, stops, waits)?;
-    let (status, link) = run_live(rt, task, version, (input, output), path, feed);
+    let (status, link) = run_live(rt, task, version, (input, output), path, beside);
     if status == FOLLOW_IO && link.reader.has_stopped() {
         return Ok((FOLLOW_BROKEN, link));
     }
@@ -416,12 +466,12 @@ fn tell_notes(rt: &HostRuntime, file: &str, fault: NotesFault) -> u8 {
 }
 
 /// The same, where the server's commits are also compared with those that are noted in a file.
-fn run_compared<D: Folder + Supposing + Drop>(
+fn run_compared<D: Folder + Supposing + Drop, M: Disk + Drop>(
     rt: &HostRuntime,
     task: &Task,
     server: (Version, Watching),
     (path, file): (&str, &str),
-    feed: Option<FeedPlan<'_, D>>,
+    beside: Beside<'_, D, M>,
 ) -> Result<u8, AllocError> {
     let position = Cell::new(u64::MAX);
     let input = match compared_input(rt, task, server, file, &position) {
@@ -429,7 +479,7 @@ fn run_compared<D: Folder + Supposing + Drop>(
         Err(fault) => return Ok(tell_notes(rt, file, fault)),
     };
     let output = FirstStatus::new(rt.stdout(), &position);
-    let (status, link) = run_guarded(rt, task, server, (input, output), path, feed)?;
+    let (status, link) = run_guarded(rt, task, server, (input, output), path, beside)?;
     let counts = link.reader.reader().counts();
     let _ = eprintln!(rt; "pgsub: repeats: {counts}");
     if status == FOLLOW_IO && link.reader.reader().has_stopped() {
@@ -439,12 +489,12 @@ fn run_compared<D: Folder + Supposing + Drop>(
 }
 
 /// Follows a watched server from standard input, and compares its commits where that is asked for.
-fn run_watched<D: Folder + Supposing + Drop>(
+fn run_watched<D: Folder + Supposing + Drop, M: Disk + Drop>(
     rt: &HostRuntime,
     task: &Task,
     server: (Version, Watching),
     path: &str,
-    feed: Option<FeedPlan<'_, D>>,
+    beside: Beside<'_, D, M>,
 ) -> Result<u8, AllocError> {
     if let Task::Follow {
         repeats: Some(file),
@@ -456,32 +506,51 @@ fn run_watched<D: Folder + Supposing + Drop>(
             let _ = eprintln!(rt; "error: the argument '--load' cannot be used with '--repeats'");
             return Ok(USAGE);
         }
-        return run_compared(rt, task, server, (path, file.as_str()), feed);
+        return run_compared(rt, task, server, (path, file.as_str()), beside);
     }
     let ends = (rt.stdin(), rt.stdout());
-    let (status, _link) = run_guarded(rt, task, server, ends, path, feed)?;
+    let (status, _link) = run_guarded(rt, task, server, ends, path, beside)?;
     Ok(status)
 }
 
 /// Follows a server from standard input, and watches it where that is asked for.
-fn run_follow<D: Folder + Supposing + Drop>(
+fn run_follow<D: Folder + Supposing + Drop, M: Disk + Drop>(
     rt: &HostRuntime,
     task: &Task,
     server: (Version, Option<Watching>),
     path: &str,
-    feed: Option<FeedPlan<'_, D>>,
+    beside: Beside<'_, D, M>,
 ) -> u8 {
     let (version, watch) = server;
     let Some(watching) = watch else {
-        return run_live(rt, task, version, (rt.stdin(), rt.stdout()), path, feed).0;
+        return run_live(rt, task, version, (rt.stdin(), rt.stdout()), path, beside).0;
     };
-    match run_watched(rt, task, (version, watching), path, feed) {
+    match run_watched(rt, task, (version, watching), path, beside) {
         Ok(status) => status,
         Err(AllocError) => {
             let _ = eprintln!(rt; "pgsub: memory");
             FOLLOW_MEMORY
         }
     }
+}
+
+/// The same, with the file of open transactions that the task names, if any, which goes with the
+/// run.
+fn run_spooled<D: Folder + Supposing + Drop>(
+    rt: &HostRuntime,
+    task: &Task,
+    server: (Version, Option<Watching>),
+    path: &str,
+    feed: Option<FeedPlan<'_, D>>,
+) -> u8 {
+    let spool = match spool_of(rt, task) {
+        Ok(spool) => spool,
+        Err(fault) => return tell_unspooled(rt.alloc(), fault, &mut rt.stderr()),
+    };
+    let beside = Beside { feed, spool };
+    let status = run_follow(rt, task, server, path, beside);
+    remove_spool(rt, task);
+    status
 }
 
 /// Applies a recording or a file to a store in memory, which ends with the program, and tells
@@ -527,7 +596,7 @@ fn run_words(rt: &HostRuntime, words: &[String]) -> u8 {
         ..
     } = &task
     {
-        return run_follow(rt, &task, (*version, *watch), store.as_str(), feed);
+        return run_spooled(rt, &task, (*version, *watch), store.as_str(), feed);
     }
     if let Task::Dump { store, .. } = &task {
         return dump_over(rt, &task, store.as_str());

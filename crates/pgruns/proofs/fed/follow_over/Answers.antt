@@ -15,7 +15,7 @@ returns-in-None-clause-ran g c =
       e.3,
       e.4,
       e.5,
-      λ serves. (refl, λ honest. e.6 honest (serves honest)),
+      λ serves. (refl, λ kept. e.6 kept.0 kept.1 (serves kept)),
     ))
 
 pub returns-in-Ok-clause-unfed : goal.returns-in-Ok-clause-unfed
@@ -36,8 +36,8 @@ returns-in-Ok-clause-ran g c =
         c.in-Ok.feed,
         subst (λ (p : ℕ). g.B.FeedOpening.opens c.in-Some.feed p c.in-Ok.feed) c.position.ensures.position
             c.in-Ok.ensures.opened,
-        λ honest.
-            let f = e.6 honest (serves honest) in (
+        λ kept.
+            let f = e.6 kept.0 kept.1 (serves kept) in (
               f.0,
               f.1,
               store_of f.0.store c.args.store c.in-Ok.feed f.2,

@@ -24,12 +24,12 @@ returns-in-Ok-clause-ran g c loaded run =
       record {
         opened = c.in-Ok.store;
         ended = followed.result.1;
-        found = λ honest. c.in-Ok.ensures.stood (followed.ensures.honest honest);
-        serves = λ honest. c.in-Ok.ensures.serves (followed.ensures.honest honest);
+        found = λ kept. c.in-Ok.ensures.stood (followed.ensures.honest kept);
+        serves = λ kept. c.in-Ok.ensures.serves (followed.ensures.honest kept);
         unmissed = ap (λ (a : Group). a.missed) c.in-Ok.ensures.begun;
         run = (
           c.followed_status.ensures ∙ ap₂ (status_closed status_of_unclosed) e.1 closed.ensures.fault,
-          e.6 (λ honest. c.in-Ok.ensures.serves (followed.ensures.honest honest)),
+          e.6 (λ kept. c.in-Ok.ensures.serves (followed.ensures.honest kept)),
         );
         closes = closed.ensures.closes;
       },
@@ -48,14 +48,15 @@ returns-in-Ok-clause-unfed g c loaded unfed =
       c.followed_status.ensures ∙ ap (λ (n : ℕ). status_closed status_of_unclosed n closed.result.0) e.2
           ∙ unfed_stays e.0 closed.result.0,
       e.3,
-      (followed.new.io.err, e.4, told),
+      e.4,
+      (followed.new.io.err, e.5, told),
       record {
         opened = c.in-Ok.store;
         ended = followed.result.1;
-        found = λ honest. c.in-Ok.ensures.stood (followed.ensures.honest honest);
-        serves = λ honest. c.in-Ok.ensures.serves (followed.ensures.honest honest);
+        found = λ kept. c.in-Ok.ensures.stood (followed.ensures.honest kept);
+        serves = λ kept. c.in-Ok.ensures.serves (followed.ensures.honest kept);
         unmissed = ap (λ (a : Group). a.missed) c.in-Ok.ensures.begun;
-        run = e.5;
+        run = e.6;
         closes = closed.ensures.closes;
       },
     )
@@ -72,14 +73,15 @@ returns-in-Ok-clause-unloaded g c =
           ∙ unloaded_stays why closed.result.0,
       e.1,
       e.2,
-      (followed.new.io.err, e.3, told),
+      e.3,
+      (followed.new.io.err, e.4, told),
       record {
         opened = c.in-Ok.store;
         ended = followed.result.1;
-        found = λ honest. c.in-Ok.ensures.stood (followed.ensures.honest honest);
-        serves = λ honest. c.in-Ok.ensures.serves (followed.ensures.honest honest);
+        found = λ kept. c.in-Ok.ensures.stood (followed.ensures.honest kept);
+        serves = λ kept. c.in-Ok.ensures.serves (followed.ensures.honest kept);
         unmissed = ap (λ (a : Group). a.missed) c.in-Ok.ensures.begun;
-        run = e.4;
+        run = e.5;
         closes = closed.ensures.closes;
       },
     ))

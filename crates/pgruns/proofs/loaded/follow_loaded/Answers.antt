@@ -8,6 +8,7 @@ returns-in-Some-clause-unloaded g c = (
   c.tell_unloaded-status.ensures.status,
   refl,
   keeps_link c.args.plan.load c.args.io.now.link c.load_first-unloaded.new.reader c.load_first-unloaded.ensures.reader,
+  refl,
   c.tell_unloaded-status.ensures.tells,
   rw c.in-Some.is at c.load_first-unloaded.ensures.stopped,
 )
@@ -22,6 +23,7 @@ returns-in-None-clause-unfed g c none unfed =
       subst (λ link. KeepsLink c.args.plan.load c.args.io.now.link link) (sym e.4)
           (keeps_link c.args.plan.load c.args.io.now.link loaded.new.reader loaded.ensures.reader),
       e.5,
+      e.6,
       after_as _ _ _ _ _ c.args.plan.load _ c.args.store _ _ (loaded.ensures.loaded c.in-None.is) (λ rest store same. (
         same.0 ∙ ap (λ link. g.R.Read.remaining link.reader) (sym e.4),
         same.1 ∙ sym e.3,

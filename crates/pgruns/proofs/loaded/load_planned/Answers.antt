@@ -1,4 +1,4 @@
-use Rattle.std.proofs.Common.{inl, inr, Err, refl, sym, ap, ◌∙◌}
+use Rattle.std.proofs.Common.{inl, inr, refl, sym, ap, ◌∙◌}
 use Rattle.pgruns.proofs.After.{is_zero, same_fault}
 use Rattle.pgruns.proofs.loaded.load_planned.Goals as goal
 

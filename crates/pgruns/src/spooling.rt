@@ -1,0 +1,131 @@
+//! The file in which the changes of open transactions go on that memory doesn't hold.
+//!
+//! PostgreSQL documentation, Streaming of Large Transactions for Logical Decoding.
+
+ghost use Rattle.std.specs.Prelude.{◌≡◌, None, Err};
+ghost use Rattle.pgsub_cli.specs.declared.fault.RunFault.TheVariants.{Stream};
+ghost use Rattle.pgsub_cli.specs.Caused.{TellsBecause};
+ghost use Rattle.pgsub_cli.specs.FollowStatus.{status_of_fault};
+ghost use Rattle.pgsub_core.specs.declared.fault.Fault.TheVariants.{Spool};
+
+use crate::file_folder::{make_file, open_file};
+use pgfeed::FeedFault;
+use pgspool::SpoolFault;
+use pgsub_cli::SpoolFile;
+use pgsub_cli::files::Output;
+use pgsub_cli::following::{fault_status, tell_because};
+use pgsub_core::Fault;
+use sqlite::{FileFrom, Unknown};
+use std::alloc::Global;
+use std::fs::File;
+use std::io::{ErrorKind, Read};
+use std::os::unix::fs::MetadataExt;
+use std::{fs, io};
+
+/// A fault of the system.
+fn spool_fault(error: io::Error) -> SpoolFault {
+    match error.kind() {
+        ErrorKind::OutOfMemory => SpoolFault::Memory,
+        ErrorKind::StorageFull => SpoolFault::NoRoom,
+        _ => SpoolFault::NotWritten,
+    }
+}
+
+/// How the file of a database begins.
+///
+/// SQLite documentation, Database File Format, The Database Header.
+const DATABASE: &[u8] = b"SQLite format 3\0";
+
+/// Whether a file begins as that of a database.
+fn is_database(rt: &HostRuntime, path: &str) -> io::Result<bool> {
+    let mut head = [0; 16];
+    let mut file = File::open(rt, path)?;
+    Ok(file.read_exact(&mut head).is_ok() && head.as_slice() == DATABASE)
+}
+
+/// Whether two paths lead to one file.
+fn lead_to_one_file(rt: &HostRuntime, path: &str, other: &str) -> bool {
+    match (fs::metadata(rt, path), fs::metadata(rt, other)) {
+        (Ok(one), Ok(two)) => one.ino() == two.ino() && one.dev() == two.dev(),
+        _ => false,
+    }
+}
+
+/// Whether a path leads to one of these files.
+fn is_one_of(rt: &HostRuntime, path: &str, others: &[&str]) -> bool {
+    for other in others {
+        if lead_to_one_file(rt, path, other) {
+            return true;
+        }
+    }
+    false
+}
+
+/// Whether what is at a path may be lost: nothing, or a plain file that is no database and none of
+/// these.
+fn may_be_lost(rt: &HostRuntime, path: &str, others: &[&str]) -> io::Result<bool> {
+    match fs::symlink_metadata(rt, path) {
+        Ok(about) if !about.is_file() => Ok(false),
+        Ok(_) => Ok(!is_one_of(rt, path, others) && !is_database(rt, path)?),
+        Err(error) if error.kind() == ErrorKind::NotFound => Ok(true),
+        Err(error) => Err(error),
+    }
+}
+
+/// Removes the file at a path, if it is there.
+fn remove_old(rt: &HostRuntime, path: &str) -> io::Result<()> {
+    match fs::remove_file(rt, path) {
+        Err(error) if error.kind() != ErrorKind::NotFound => Err(error),
+        _ => Ok(()),
+    }
+}
+
+/// Makes the file at a path anew, for its owner alone. Returns false where another file that is
+/// needed is there, or would be: of these a run makes those that aren't there.
+fn is_made_anew(rt: &HostRuntime, path: &str, others: &[&str]) -> io::Result<bool> {
+    if !may_be_lost(rt, path, others)? {
+        return Ok(false);
+    }
+    remove_old(rt, path)?;
+    make_file(rt, path)?;
+    if is_one_of(rt, path, others) {
+        fs::remove_file(rt, path)?;
+        return Ok(false);
+    }
+    Ok(true)
+}
+
+/// Makes the file at a path anew, for its owner alone, and opens it. What it held is lost, unless
+/// it is a database, no plain file, or one of the `others` that the run needs. So many bytes of the
+/// changes of open transactions stay in memory.
+///
+/// # Errors
+///
+/// `NotWritten` where it can't be made or opened, `NoRoom` where the disk is full, and `Memory`.
+pub fn make_spool(
+    rt: &HostRuntime,
+    path: &str,
+    others: &[&str],
+    max_in_memory: u64,
+) -> Result<SpoolFile<FileFrom<Unknown>>, SpoolFault> {
+    if !is_made_anew(rt, path, others).map_err(spool_fault)? {
+        return Err(SpoolFault::NotWritten);
+    }
+    match open_file(rt, path) {
+        Ok(file) => SpoolFile::over(file, max_in_memory).ok_or(SpoolFault::NotWritten),
+        Err(FeedFault::Memory) => Err(SpoolFault::Memory),
+        Err(_) => Err(SpoolFault::NotWritten),
+    }
+}
+
+/// Tells why the file can't be made. Returns the exit status, that of a run which this fault
+/// stopped: 14 where memory ran out and else 13.
+pub fn tell_unspooled<E: Output>(alloc: Global, fault: SpoolFault, err: &mut E) -> u8
+    ensures status { result ≡ status_of_fault (Spool fault) }
+    ensures tells { TellsBecause E.takes E.failed None (Err (Stream (Spool fault)))
+        err.old err.new }
+{
+    let stopped = Fault::Spool(fault);
+    tell_because(alloc, stopped, None, err);
+    fault_status(stopped)
+}
