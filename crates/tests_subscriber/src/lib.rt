@@ -6,8 +6,8 @@
 //! - Which messages of clients a store hears before which commit.
 //! - Stores in memory whose disks stop at any call, and are opened again.
 //! - The short forms for embedders (`pgembed`).
-//! - Following a server (`pgsub_cli`) by readers and writers that fail, over stores that fail and a
-//!   clock that is set by hand, and the texts of all faults.
+//! - Following a server (`pgsub_cli`) by readers and writers that fail, over stores that fail, with
+//!   changes in a file that fails, and a clock that is set by hand; and the texts of all faults.
 //!
 //! They show what no contract says: that a call can succeed, what the text of a fault is, and that
 //! the definitions mean what was worked out by hand. Command lines, faults of a stream, bad changes
@@ -43,6 +43,8 @@ mod reporting_tests;
 mod row;
 #[cfg(test)]
 mod rows;
+#[cfg(test)]
+mod spooled_tests;
 #[cfg(test)]
 mod steps;
 #[cfg(test)]
