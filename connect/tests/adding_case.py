@@ -26,6 +26,7 @@ from pgsub_connect.server.session import Subscription
 from pgsub_connect.status.progress import Progress
 from pgsub_connect.store.checkpoint import Checkpoint, read_known
 from pgsub_connect.store.repeats_file import RepeatsFile
+from pgsub_connect.store.spool_folder import SpoolFolder
 from pgsub_connect.stream import statuses
 from pgsub_connect.stream.filter import Filter
 from pgsub_feed.texts import lsn_text
@@ -91,8 +92,9 @@ class Run:
         self.checkpoint = Checkpoint(case.store)
         words = ["/usr/bin/python3", "-S", "-E", FILTER, "follow", "--store", case.store]
         sizes: dict[str, Any] = {"max_buffered": 1 << 26, "max_frame": 1 << 24, **options}
-        most = sizes["max_buffered"]
-        self.filter = Filter([*words, "--max-buffered", str(most)], (self.checkpoint.file,))
+        most, spool = sizes["max_buffered"], SpoolFolder(case.store)
+        words += ["--spool", spool.path, "--max-buffered", str(most)]
+        self.filter = Filter(words, (self.checkpoint.file,), spool=spool)
         subscription = Subscription(publications=["pgsub"])
         self.filter.note_repeats(RepeatsFile(case.store, self.checkpoint, subscription))
         self.progress, self.remembered = Progress(), Remembered(case.store)

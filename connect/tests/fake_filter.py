@@ -2,9 +2,9 @@
 """A filter in the place of `pgsub follow`: it stores nothing but its position, and says what the
 tests ask it to.
 
-usage: fake_filter follow --store FILE [--load] [--proto N] [--feed FOLDER --feed-system TEXT --feed-database TEXT --feed-slot TEXT] [--repeats FILE] ..
+usage: fake_filter follow --store FILE [--spool FILE] [--load] [--proto N] [--feed FOLDER --feed-system TEXT --feed-database TEXT --feed-slot TEXT] [--repeats FILE] ..
 
-The file holds the position as text. Of a commit the feed has the line alone. A Delete finds no row,
+The file holds the position as text, and that of --spool what has come of transactions. Of a commit the feed has the line alone. A Delete finds no row,
 and anything else does. Each table of a load is a part. FAKE_FILTER in its first line's place: a file FILE.says may hold one of
 these words:
   `status N TEXT`    ends at the first frame, with this status and this line on standard error
@@ -72,6 +72,16 @@ class Fake:
                 self.position = int(file.read() or 0)
         self.confirmed, self.inside, self.received = self.position, False, 0
         self.feed: Writer | None = None
+        # the file of what open transactions have
+        self.spool = -1
+
+    def open_spool(self, path: str) -> bool:
+        """Makes the file empty. Returns false where that isn't possible."""
+        try:
+            self.spool = os.open(path, os.O_WRONLY | os.O_CREAT | os.O_TRUNC | os.O_CLOEXEC, 0o666)
+        except OSError:
+            print("pgsub: spool 3 NotWritten", file=sys.stderr, flush=True)
+        return self.spool >= 0
 
     def open_feed(self, name: str, named: tuple[str, str, str]) -> bool:
         """Begins a feed, or goes on with one whose last commit is the store's. Returns false where
@@ -170,6 +180,8 @@ class Fake:
         """Takes a payload, and says a status where the confirmed position has moved or one is asked
         for."""
         before = self.confirmed
+        if self.spool >= 0 and payload[:1] == b"w":
+            os.write(self.spool, payload[25:])
         if payload[:1] == b"k":
             if not self.inside:
                 self.confirmed = max(self.confirmed, int.from_bytes(payload[1:9], "big"))
@@ -213,6 +225,8 @@ def main(words: list[str]) -> int:
     store = words[words.index("--store") + 1]
     says = said(store)
     fake = Fake(store, says)
+    if "--spool" in words and not fake.open_spool(words[words.index("--spool") + 1]):
+        return 13
     if not os.path.exists(store):
         open(store, "w", encoding="ascii").close()
     if "--load" in words and (status := fake.load()):

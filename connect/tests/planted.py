@@ -976,14 +976,14 @@ BUGS = (
     Bug(
         "what was counted before a rejection is told as not counted",
         "pgsub_connect/stream/filter.py",
-        "self.close(ended.has_told_all())",
-        "self.close(False)",
+        "self.has_told_all = ended is not None and ended.has_told_all()",
+        "self.has_told_all = False",
         ("test_missing",),
     ),
     Bug(
         "what a killed filter has stored is taken for counted",
         "pgsub_connect/stream/filter.py",
-        "            self.has_told_all = has_told_all",
+        "            self.has_told_all = ended is not None and ended.has_told_all()",
         "            self.has_told_all = True",
         ("test_missing",),
     ),

@@ -2,12 +2,14 @@
 """A filter in the place of `pgsub follow` that keeps rows, in a file of the store's format: for
 tests that compare rows.
 
-usage: row_filter follow --store FILE [--load] [--proto N] [--max-buffered N] [--max-frame N] [--repeats FILE] ..
+usage: row_filter follow --store FILE [--load] [--proto N] [--max-buffered N] [--max-frame N] [--repeats FILE] [--spool FILE] ..
        row_filter dump --store FILE
 
 It is a plain reading of docs/PROTOCOL.md, slow, and checks no more than it needs to. The file
 FILE.dies may hold an LSN in decimal: the filter kills itself before it stores the commit with that
-end, and takes the file away.
+end, and takes the file away. With --spool it writes each change there, too, and
+FILE.fault may hold the line of a fault of that: it ends by it at its next change, and takes the
+file away.
 
 The tests start it often, so it imports little.
 """
@@ -256,11 +258,30 @@ class Store:
         return found
 
 
+class Spool:
+    """The file of --spool, which nobody reads."""
+
+    def __init__(self, path: str, fault: str) -> None:
+        self.fault = fault
+        try:
+            self.file = os.open(path, os.O_WRONLY | os.O_CREAT | os.O_TRUNC | os.O_CLOEXEC, 0o666)
+        except OSError:
+            raise Fault(13, "pgsub: spool 3 NotWritten") from None
+
+    def write(self, item: bytes) -> None:
+        os.write(self.file, item)
+        if os.path.exists(self.fault):
+            with open(self.fault, encoding="ascii") as file:
+                line = file.read()
+            os.unlink(self.fault)
+            raise Fault(13, line)
+
+
 class Subscriber:
     """Takes payloads, and applies commits to a store."""
 
-    def __init__(self, store: Store, most: int = 1 << 40) -> None:
-        self.store, self.most = store, most
+    def __init__(self, store: Store, most: int = 1 << 40, spool: Spool | None = None) -> None:
+        self.store, self.most, self.spool = store, most, spool
         self.confirmed = store.position
         self.begin_session()
 
@@ -313,6 +334,8 @@ class Subscriber:
         assert self.inside is not None
         who = self.inside if self.is_pair else number(body, 0, 4)
         item = letter.encode() + (body if self.is_pair else body[4:])
+        if self.spool:
+            self.spool.write(item)
         self.cost += 8 + len(item)
         if self.cost > self.most:
             raise Fault(10, "pgsub: spool 1 SpoolFull")
@@ -392,8 +415,10 @@ def noted_of(words: list[str], position: int) -> NotedCommits | None:
         raise Fault(3, f"pgsub: repeats: can't use {path}: {error}") from None
 
 
-def follow(store: Store, most: int, limit: int, noted: NotedCommits | None = None) -> None:
-    subscriber = Subscriber(store, most)
+def follow(
+    store: Store, most: int, limit: int, noted: NotedCommits | None, spool: Spool | None
+) -> None:
+    subscriber = Subscriber(store, most, spool)
 
     def status() -> None:
         values = (subscriber.received, subscriber.confirmed, subscriber.confirmed, 0, 0)
@@ -475,8 +500,14 @@ def main(words: list[str]) -> int:
     def value(name: str, default: int) -> int:
         return int(words[words.index(name) + 1]) if name in words else default
 
+    path, spool = words[words.index("--store") + 1], None
     try:
-        store = Store(words[words.index("--store") + 1], own=True)
+        if "--spool" in words:
+            spool = Spool(words[words.index("--spool") + 1], path + ".fault")
+        store = Store(path, own=True)
+    except Fault as fault:
+        print(fault, file=sys.stderr, flush=True)
+        return fault.status
     except sqlite3.OperationalError as error:
         print(f"row_filter: {error}", file=sys.stderr)
         return 12
@@ -488,7 +519,8 @@ def main(words: list[str]) -> int:
             if "--load" in words:
                 load(store, limit)
             noted = noted_of(words, store.position)
-            follow(store, value("--max-buffered", 1 << 26), limit, noted)
+            most = value("--max-buffered", 1 << (40 if spool else 26))
+            follow(store, most, limit, noted, spool)
     except Fault as fault:
         print(fault, file=sys.stderr, flush=True)
         return fault.status

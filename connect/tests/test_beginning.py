@@ -310,8 +310,10 @@ class Copies(Copying):
             before, checkpoint = own_files(self.store), Checkpoint(self.store)
             with leaving_nothing(checkpoint, before, (feed, rows, mine, "", None)):
                 os.makedirs(feed + "/readers")
+                os.mkdir(self.store + ".spool")
                 for path in (
                     *(self.store + it for it in ("", "-wal", ".status", ".sock")),
+                    self.store + ".spool/transactions",
                     *(feed + it for it in ("/0000000000000000", "/confirmed", "/readers/tables")),
                     *(rows + it for it in ("", "-wal", "-shm")),
                     *([feed + "/mine"] if is_mine else []),

@@ -222,6 +222,16 @@ class Asked(Case):
         self.assertEqual(self.left(), {"rows.db"})
         self.assertIn("its follower is asked for a copy", told[0])
 
+    def test_open_transactions_stay(self) -> None:
+        """No copy has what isn't committed."""
+        os.mkdir(self.path + ".spool")
+        with open(self.path + ".spool/transactions", "wb") as file:
+            file.write(bytes(5000))
+        with self.followed(), logged():
+            snapshot.run(self.options(), never)
+        self.assertEqual(self.left(), {"rows.db", "copy.db.spool"})
+        self.assertEqual(os.listdir(self.path + ".spool"), ["transactions"])
+
     def test_snapshot(self) -> None:
         with self.followed(), logged():
             for _ in range(2):

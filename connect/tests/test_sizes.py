@@ -19,11 +19,13 @@ from .test_passing import Case, Source
 from .vectors import begin, commit, insert, logged
 
 KILLED = FilterEnded(-9, "")
+# A filter that is told how much it may buffer, and one whose open transactions go on in a file.
+BOUNDED, SPOOLED = BufferLimits(max_buffered=1000, max_frame=500), BufferLimits(1000, 500, False)
 
 
 class Killed(unittest.TestCase):
     def test_twice_in_one_transaction(self) -> None:
-        kills = Kills()
+        kills = Kills(BOUNDED)
         kills.note(KILLED, 7, SMALL)
         with self.assertRaises(KilledTwice) as raised:
             kills.note(KILLED, 7, 5 * SMALL)
@@ -32,25 +34,32 @@ class Killed(unittest.TestCase):
             self.assertIn(part, text)
         self.assertEqual(raised.exception.exit_status(), REJECTED)
 
+    def test_twice_with_a_file(self) -> None:
+        """No limit is asked for that there isn't."""
+        kills = Kills(SPOOLED)
+        kills.note(KILLED, 7, SMALL)
+        with self.assertRaisesRegex(KilledTwice, r"more memory than there was \(.*MemoryMax\)$"):
+            kills.note(KILLED, 7, SMALL)
+
     def test_in_two(self) -> None:
-        kills = Kills()
+        kills = Kills(BOUNDED)
         for xid in (7, 8, 7, 9):
             kills.note(KILLED, xid, SMALL)
 
     def test_small_ones_arent_why(self) -> None:
-        kills = Kills()
+        kills = Kills(BOUNDED)
         for _ in range(3):
             kills.note(KILLED, 7, SMALL - 1)
 
     def test_what_ends_by_itself(self) -> None:
         """Of memory too, of which there may be more a little later."""
-        kills = Kills()
+        kills = Kills(BOUNDED)
         for _ in range(3):
             kills.note(FilterEnded(MEMORY, "pgsub: out of memory"), 7, SMALL)
 
 
 class Texts(unittest.TestCase):
-    LIMITS = BufferLimits(max_buffered=1000, max_frame=500)
+    LIMITS = BOUNDED
 
     def test_full(self) -> None:
         for transaction, parts in (
@@ -86,6 +95,10 @@ class Texts(unittest.TestCase):
                 limit_text(FilterEnded(FRAME_TOO_LARGE, ""), self.LIMITS, (0, 0), longest),
                 f"{wanted}, and memory for it",
             )
+        self.assertEqual(
+            limit_text(FilterEnded(FRAME_TOO_LARGE, ""), SPOOLED, (0, 0), 600),
+            "a message had 600 bytes, and 500 are accepted: give --max-frame 1208, and memory for it",
+        )
         limits = BufferLimits(1 << 40, LONGEST_FRAME - 5)
         text = limit_text(FilterEnded(FRAME_TOO_LARGE, ""), limits, (0, 0), LONGEST_FRAME - 6)
         self.assertIn(f"give --max-frame {LONGEST_FRAME}, and", text)

@@ -215,7 +215,7 @@ class Words(Quiet):
 
     def test_limits_in_the_help(self) -> None:
         help_text = " ".join(cli.parser_of("follow").format_help().split())
-        self.assertIn("(default: what may be buffered, at most 2147483643)", help_text)
+        self.assertIn("at most 2147483643, or half of the memory, at most 1 GiB)", help_text)
 
     def settled(self, *words: str) -> follow.Options:
         options = settled(["follow", "--store", "/nonexistent/s", *words])
@@ -284,7 +284,8 @@ class Words(Quiet):
         self.assertEqual((options.max_buffered, options.max_frame), (5000000000, 2147483643))
 
     def filter_words(self, *words: str) -> list[str]:
-        options = self.settled("--max-buffered", "5000", "--pgsub", "/bin/pgsub", *words)
+        sizes = "--max-buffered", "5000", "--spool-memory", "1kB"
+        options = self.settled(*sizes, "--pgsub", "/bin/pgsub", *words)
         return follow.make_filter(options, mock.Mock(file=3)).words
 
     def test_words_of_the_filter(self) -> None:
@@ -293,6 +294,10 @@ class Words(Quiet):
             "follow",
             "--store",
             "/nonexistent/s",
+            "--spool",
+            "/nonexistent/s.spool/transactions",
+            "--spool-memory",
+            "1024",
             "--max-buffered",
             "5000",
             "--max-frame",

@@ -36,8 +36,9 @@ from ..store.checkpoint import Checkpoint
 from ..store.checkpoint_lines import COPYING, FOLLOWING, INTERRUPTED, NEW
 from ..store.placing import OF_STORE, check_meant
 from ..store.repeats_file import RepeatsFile
+from ..store.spool_folder import SUFFIX as SPOOL, SpoolFolder, check_spool, remove_spool
 from ..stream.common import Common, Tolerance
-from ..stream.filter import WATCH, Filter
+from ..stream.filter import SPOOL as SPOOL_WORD, SPOOL_MEMORY, WATCH, Filter
 from ..stream.filter_end import FilterEnded
 from ..stream.left_file import LeftFile
 from .arguments import session, words
@@ -122,7 +123,7 @@ def check_options(parser: argparse.ArgumentParser, options: Options) -> Options:
     if options.messages and options.without_messages:
         parser.error("--messages and --without-messages exclude each other")
     check_numeric(parser, options.numeric, options.digests)
-    if options.strict and options.watch == session.NO:
+    if options.strict and options.watch == words.NO:
         parser.error("--strict and --watch no exclude each other")
     if not options.store:
         parser.error("--store is needed")
@@ -184,7 +185,9 @@ def leaving_nothing(
                 made.remove(store + ".tables")
             for path in (*new, *sorted(made, key=lambda it: it == checkpoint.path)):
                 with contextlib.suppress(OSError):
-                    if os.path.isdir(path):
+                    if path in made and path.endswith(SPOOL):
+                        remove_spool(path)
+                    elif os.path.isdir(path):
                         remove_feed(path)
                     else:
                         remove_files(path)
@@ -223,6 +226,8 @@ def check_start(options: Options) -> None:
     if options.snapshot:
         check_copied(options.store, options.snapshot, "--snapshot")
     check_meant(options.store)
+    if options.spool_memory != words.NO:
+        check_spool(options.store)
     is_there = any(os.path.exists(options.store + it) for it in ("", ".connector"))
     if not (options.create or options.no_copy or is_there):
         raise no_store(options)
@@ -251,6 +256,8 @@ class Parts:
 
     def finish(self) -> None:
         self.child.kill()
+        if self.child.spool:
+            self.child.spool.remove()
         self.feeding.finish()
         if self.recording:
             self.recording.flush()
@@ -268,6 +275,7 @@ def made(options: Options, checkpoint: Checkpoint) -> Parts:
     feeding = Feeding(options.feed_settings(store, mode), common)
     feeding.check()
     child = make_filter(options, checkpoint)
+    progress.spool.note_path(child.spool.path if child.spool else "")
     begin_watching(options, common, child)
     copier = Copier(options.copy_settings(), common, child, feeding.rows_beside())
     recording = Aside(options.record, True, options.bytes, mode) if options.record else None
@@ -280,16 +288,20 @@ def made(options: Options, checkpoint: Checkpoint) -> Parts:
 
 
 def make_filter(options: Options, checkpoint: Checkpoint) -> Filter:
-    words = [options.pgsub, "follow", "--store", meant(options.store)]
-    words += ["--max-buffered", str(options.max_buffered), "--max-frame", str(options.max_frame)]
-    words += ["--cache", str(options.cache)] if options.cache else []
+    spool = None if options.spool_memory == words.NO else SpoolFolder(options.store)
+    told = [options.pgsub, "follow", "--store", meant(options.store)]
+    if spool:
+        told += [SPOOL_WORD, spool.path, SPOOL_MEMORY, str(options.spool_memory)]
+    told += ["--max-buffered", str(options.max_buffered)] if options.is_bounded else []
+    told += ["--max-frame", str(options.max_frame)]
+    told += ["--cache", str(options.cache)] if options.cache else []
     left = LeftFile(options.store, options.check_every)
-    return Filter(words, (checkpoint.file,), options.proto, options.mode, left)
+    return Filter(told, (checkpoint.file,), options.proto, options.mode, left, spool)
 
 
 def begin_watching(options: Options, common: Common, child: Filter) -> None:
     """Has the filter watch the server, as far as it is to."""
-    if options.watch != session.NO:
+    if options.watch != words.NO:
         child.add_words([WATCH, "stop" if common.tolerance.stops else "tell"])
     if options.watch != session.ALL:
         # (commits come now that aren't noted)

@@ -43,7 +43,7 @@ class FilterLife:
         self.limits, self.filter, self.progress = limits, confirming.filter, confirming.progress
         self.confirming, self.noting, self.misses = confirming, confirming.noting, confirming.misses
         self.watch, self.form, self.ending, self.feeding = watch, form, ending, feeding
-        self.kills = Kills()
+        self.kills = Kills(limits)
         # whether a filter has begun here; one that runs before that has loaded the first rows
         self.has_begun = False
 

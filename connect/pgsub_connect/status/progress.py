@@ -12,7 +12,7 @@ from pgsub_feed.texts import counted, lsn_text
 from ..server.session import waits_for
 from ..server.slot import Slot
 from .notify import Notifier
-from .state import CopyCounters, FeedState, Findings, StreamCounters
+from .state import CopyCounters, FeedState, Findings, SpoolState, StreamCounters
 
 
 class ServerState:
@@ -79,7 +79,7 @@ class Progress:
         self.program = ""
         self.stream, self.copy = StreamCounters(), CopyCounters()
         self.server, self.slot = ServerState(), Slot()
-        self.findings, self.feed = Findings(), FeedState()
+        self.findings, self.feed, self.spool = Findings(), FeedState(), SpoolState()
 
     def beat(self) -> None:
         """Notes that the main loop is alive."""

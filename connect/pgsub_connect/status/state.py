@@ -3,6 +3,7 @@ is behind the server, what was found, and the feed beside the store."""
 
 import collections
 import dataclasses
+import os
 import threading
 import time
 
@@ -206,6 +207,36 @@ class Findings:
 
     def note_adding(self, adding: dict[str, str]) -> None:
         self.adding = adding
+
+
+class SpoolState:
+    """The file of open transactions' changes. Nothing of it is known where they stay in memory."""
+
+    def __init__(self) -> None:
+        self.path = ""
+        # what is wrong with it, and up to which LSN the copy isn't confirmed as long as that lasts
+        self.failed = "", 0
+
+    def note_path(self, path: str) -> None:
+        self.path = path
+
+    def note_fault(self, text: str, until: int) -> None:
+        self.failed = text, until
+
+    def fault(self, confirmed: int) -> str:
+        """What is wrong with it, "" once the copy is confirmed up to where the server was then."""
+        text, until = self.failed
+        return text if confirmed < until else ""
+
+    def bytes(self) -> int | None:
+        """How large it is."""
+        if not self.path:
+            return None
+        try:
+            return os.stat(self.path).st_size
+        except OSError:
+            # (no filter runs)
+            return 0
 
 
 class FeedState:

@@ -11,12 +11,13 @@ from pgsub_feed.ownership import real
 from .file import NEW
 from .repeats_file import SUFFIX as REPEATS
 from .socket_file import SUFFIX
+from .spool_folder import SUFFIX as SPOOL
 
 # The end of the name of the file that says how the filter left its store.
 LEFT = ".left"
 # What follows a store's name in those of its files, the checkpoint last, by which a start tells.
 OF_STORE = (
-    *(NEW, *OF_FILE[1:], "", SUFFIX, REPEATS),
+    *(NEW, *OF_FILE[1:], "", SUFFIX, REPEATS, SPOOL),
     *(LEFT + ".new", LEFT, ".tables.new", ".tables", ".connector"),
 )
 Identity = str | tuple[int, int]
@@ -40,7 +41,7 @@ def check_apart(
     names = (store, os.path.realpath(store)) if store else ()
     own = identities(*(name + it for name in names for it in OF_STORE))
     for at, (option, path) in enumerate(written):
-        if not own.isdisjoint(identities(path)):
+        if not own.isdisjoint(identities(path, os.path.dirname(os.path.realpath(path)))):
             raise UsageError(f"{option} {path}: that is a file of the store itself")
         files = identities(*(path + it for it in OF_FILE))
         for other, its in (*written[at + 1 :], *read):

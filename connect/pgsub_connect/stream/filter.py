@@ -14,6 +14,7 @@ from pgsub_feed.interruption import Check, never, undone_by
 from .. import version
 from ..errors import FilterFault
 from ..store.repeats_file import RepeatsFile
+from ..store.spool_folder import SpoolFolder
 from .awake import Awake, Numbers, Served
 from .filter_end import ROOMLESS, FilterEnded
 from .filter_input import PIECE, ROOM, FilterInput
@@ -28,6 +29,8 @@ LOOK = 0.5
 LOAD, WATCH = "--load", "--watch"
 # What has it compare commits that come again with those that came before.
 REPEATS = "--repeats"
+# The file in which changes of open transactions go on, and how many bytes of them stay in memory.
+SPOOL, SPOOL_MEMORY = "--spool", "--spool-memory"
 # What has it start without reading the rows of a store that the one before it left.
 TRUST = "--trust-store"
 # What a filter needs of the environment: not the passwords of a server.
@@ -46,6 +49,7 @@ class Filter:
         proto: int = 2,
         mode: int = 0o600,
         left: LeftFile | None = None,
+        spool: SpoolFolder | None = None,
     ) -> None:
         self.words, self.proto, self.kept_open, self.mode = words, proto, kept_open, mode
         self.runs = self.in_session = False
@@ -53,6 +57,8 @@ class Filter:
         # where it is to note commits, and whether the one that runs does
         self.repeats: RepeatsFile | None = None
         self.compares = False
+        # where changes go on that its memory doesn't hold, None where all stay there
+        self.spool = spool
         # by which one trusts what the one before it left; and whether the one that runs does
         self.left, self.trusts = left, False
         # the last status, and the beginning of the next one
@@ -100,6 +106,8 @@ class Filter:
         store, and has read what is to come before its first session."""
         version.check_program(self.words[0])
         words = self.watching(LOAD in more)
+        if self.spool:
+            self.spool.begin()
         self.trusts = self.left is not None and self.left.begin()
         if self.trusts:
             words = [*words, TRUST]
@@ -249,20 +257,24 @@ class Filter:
             self.said.read()
         room = room_text(self.words) if status in ROOMLESS else ""
         ended = FilterEnded(status, self.said.reason(status), room)
-        self.close(ended.has_told_all())
+        self.close(ended)
         return ended
 
     def kill(self) -> None:
         if self.runs:
             self.child.send_signal(signal.SIGKILL)
             self.child.wait()
-            self.close(False)
+            self.close(None)
 
-    def close(self, has_told_all: bool) -> None:
+    def close(self, ended: FilterEnded | None) -> None:
+        """`ended`: what it said as it ended, None of one that is killed here."""
+        is_of_spool = ended is not None and ended.is_of_spool()
         if self.status:
-            self.has_told_all = has_told_all
+            self.has_told_all = ended is not None and ended.has_told_all()
         if self.left:
-            self.left.end(self.child.returncode, self.has_opened())
+            self.left.end(self.child.returncode, self.has_opened(), is_of_spool)
+        if self.spool:
+            self.spool.end()
         for it in (self.child.stdin, self.child.stdout, self.child.stderr):
             if it:
                 it.close()

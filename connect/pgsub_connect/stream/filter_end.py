@@ -25,6 +25,10 @@ MISSING = re.compile(
 )
 
 
+# What it says where changes of open transactions can't be kept in their file: the file can't be
+# written or made, its disk is full, or it gives back nothing, or other bytes.
+OF_SPOOL = "pgsub: spool 3 NotWritten", "pgsub: spool 4 NoRoom", "pgsub: spool 5 NotRead"
+NOT_WRITTEN, NO_ROOM, NOT_READ = OF_SPOOL
 # What it says, before its last line, of a transaction whose messages can't be told.
 TOO_LONG, STREAMED = "pgsub: feed 4 MessagesTooLong", "pgsub: feed 5 StreamedMessage"
 OF_MESSAGES = (TOO_LONG, STREAMED)
@@ -74,6 +78,10 @@ class FilterEnded(Failure):
         is_rejected = self.status in (REJECTED, SPOOL_FULL, FRAME_TOO_LARGE)
         return is_rejected or self.said in OF_MESSAGES
 
+    def is_of_spool(self) -> bool:
+        """Whether the file of open transactions failed. The store has all commits before then."""
+        return self.status == REFUSED and self.said in OF_SPOOL
+
     def is_of_commit(self) -> bool:
         """Whether what was rejected is a commit, and not a single message."""
         starts = "pgsub: store ", "pgsub: relation "
@@ -84,7 +92,7 @@ class FilterEnded(Failure):
         """Whether it has said of all stored commits which changes found no row: also of those right
         before one that it rejected, which it doesn't confirm. One that was killed hasn't, nor one
         whose store, memory or output failed."""
-        return self.status >= 0 and self.status not in PASSING
+        return self.status >= 0 and (self.status not in PASSING or self.is_of_spool())
 
 
 class Missing(NamedTuple):

@@ -86,14 +86,16 @@ class LeftFile:
         is_due = left.starts + 1 >= self.every
         return not is_due and bool(left.store) and left == self.as_it_is(left.starts)
 
-    def end(self, status: int, has_opened: bool) -> None:
-        """The filter has ended, with this status, or below 0 by a signal."""
-        if not has_opened or status not in (*SOUND, *KILLS):
+    def end(self, status: int, has_opened: bool, is_of_spool: bool = False) -> None:
+        """The filter has ended, with this status, or below 0 by a signal. `is_of_spool`: since the
+        file of open transactions failed, and not the store."""
+        is_sound = is_of_spool or status in SOUND
+        if not has_opened or not is_sound and status not in KILLS:
             return
         # (what can't be noted is no fault of who follows: the next filter reads every row)
         with contextlib.suppress(OSError, Passing):
             self.left = self.as_it_is(self.starts)
-            if status in SOUND:
+            if is_sound:
                 replace_file(self.path, compact(READ.written(self.left)).encode() + b"\n")
 
     def read(self) -> Left | None:

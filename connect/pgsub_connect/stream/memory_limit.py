@@ -1,4 +1,5 @@
-"""How much a filter may buffer on this machine, and what is said of what was too large for it."""
+"""How much a filter may buffer on this machine, how much of that stays in memory, and what is said of
+what was too large for it."""
 
 import contextlib
 import dataclasses
@@ -13,14 +14,19 @@ LONGEST_FRAME = 2147483643
 MOST_PAGES = 4294967294
 MOST = 1 << 30
 LEAST = 64 << 20
+# What stays in memory where more goes on in a file: so many bytes, or this part of the memory.
+IN_MEMORY, PART = 64 << 20, 8
 
 
 @dataclasses.dataclass(frozen=True)
 class BufferLimits:
-    """What a filter may buffer of open transactions, and its longest frame, in bytes."""
+    """What a transaction may have that the connector makes, as of the rows of a table that is added,
+    and the filter's longest frame, in bytes. `is_bounded`: whether the filter buffers no more than
+    the former of all open transactions; else they go on in a file."""
 
     max_buffered: int = 0
     max_frame: int = 0
+    is_bounded: bool = True
 
 
 def memory() -> int | None:
@@ -42,6 +48,12 @@ def default_buffered() -> int:
     return MOST if known is None else max(LEAST, min(MOST, known // 2))
 
 
+def default_in_memory() -> int:
+    """What `--spool-memory` is where it isn't said: 64 MiB, at most an eighth of the memory."""
+    known = memory()
+    return IN_MEMORY if known is None else max(1, min(IN_MEMORY, known // PART))
+
+
 # How the filter's line ends on a row of a load that is too long.
 LINE_TOO_LONG = ": 6 TooLong"
 # Below so many bytes no transaction is why a filter is killed, or runs out of memory.
@@ -59,8 +71,8 @@ class KilledTwice(FilterEnded):
 class Kills:
     """In which transaction the filter was killed last."""
 
-    def __init__(self) -> None:
-        self.xid = 0
+    def __init__(self, limits: BufferLimits) -> None:
+        self.limits, self.xid = limits, 0
 
     def note(self, ended: FilterEnded, xid: int, size: int) -> None:
         """Notes a filter's end in its largest transaction. Raises at the second one in that."""
@@ -70,8 +82,8 @@ class Kills:
             self.xid = xid
             return
         told = f"twice in the transaction {xid}, of which {size} bytes were passed on"
-        wants = f"{SCARCE}, and --max-buffered of {size} bytes at least"
-        raise KilledTwice(ended.status, f"{told}: {wants}")
+        more = f", and --max-buffered of {size} bytes at least" if self.limits.is_bounded else ""
+        raise KilledTwice(ended.status, f"{told}: {SCARCE}{more}")
 
 
 def limit_text(
@@ -111,5 +123,6 @@ def frame_text(limits: BufferLimits, longest: int, what: str = "message") -> str
     wanted = min(2 * max(limits.max_frame, longest + 4), LONGEST_FRAME)
     if wanted <= limits.max_frame:
         return f"{text}, which is the most that can be"
-    more = f" --max-buffered {2 * wanted}" if 2 * wanted > limits.max_buffered else ""
+    is_above = limits.is_bounded and 2 * wanted > limits.max_buffered
+    more = f" --max-buffered {2 * wanted}" if is_above else ""
     return f"{text}: give --max-frame {wanted}{more}, and memory for it"

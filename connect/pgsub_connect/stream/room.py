@@ -18,8 +18,8 @@ def room_of(path: str) -> int:
 
 
 def rooms(words: Sequence[str]) -> Iterator[tuple[str, int]]:
-    """The store and the feed that a filter's words name, each with what its disk has left."""
-    for option in ("--store", "--feed"):
+    """The files that a filter's words name and it writes, each with what its disk has left."""
+    for option in ("--store", "--feed", "--spool"):
         if option in words:
             path = words[words.index(option) + 1]
             with contextlib.suppress(OSError):

@@ -13,9 +13,15 @@ from pgsub_feed.options import add_fields, file, flag, lsn, option, size
 
 from ...record import LONGEST
 from ...store.checkpoint import KINDS
-from ...stream.memory_limit import LONGEST_FRAME, MOST_PAGES, BufferLimits, default_buffered
+from ...stream.memory_limit import (
+    LONGEST_FRAME,
+    MOST_PAGES,
+    BufferLimits,
+    default_buffered,
+    default_in_memory,
+)
 from .server import PLAINTEXT
-from .words import any_seconds, lsn_or_now, seconds, within
+from .words import NO, any_seconds, lsn_or_now, seconds, size_or_no, within
 
 # The top of a checkout, or where the packages are installed.
 TOP = os.path.realpath(__file__).rsplit(os.sep, 5)[0]
@@ -38,17 +44,24 @@ def program_option() -> Any:
 
 @dataclasses.dataclass(frozen=True)
 class SizeOptions:
-    """The program, and its memory in bytes and pages; 0 and None for what it is by default."""
+    """The program, and its memory in bytes and pages; 0 and None for what it is by default.
+    `is_bounded`: whether it buffers no more than `max_buffered` of open transactions."""
 
     pgsub: str = program_option()
+    spool_memory: int | str = option(
+        "how much of open transactions stays in memory, where the rest goes on in a file beside the store; no: all of it, within --max-buffered (default: 64MB, at most an eighth of the memory)",
+        0,
+        type=size_or_no,
+        value="SIZE|no",
+    )
     max_buffered: int = option(
-        "the most that may be buffered of open transactions (default: half of the memory, at most 1 GiB)",
+        "the most that open transactions may have, in memory and in that file (default: any; of rows that are added or repaired, and with --spool-memory no, half of the memory, at most 1 GiB)",
         0,
         type=within(1, (1 << 63) - 1),
         value="BYTES",
     )
     max_frame: int = option(
-        f"the longest message that is accepted (default: what may be buffered, at most {LONGEST_FRAME})",
+        f"the longest message that is accepted (default: --max-buffered, at most {LONGEST_FRAME}, or half of the memory, at most 1 GiB)",
         0,
         type=within(1 << 10, LONGEST_FRAME),
         value="BYTES",
@@ -58,9 +71,10 @@ class SizeOptions:
         type=within(100, MOST_PAGES),
         value="PAGES",
     )
+    is_bounded: bool = True
 
     def limits(self) -> BufferLimits:
-        return BufferLimits(self.max_buffered, self.max_frame)
+        return BufferLimits(self.max_buffered, self.max_frame, self.is_bounded)
 
 
 Settled = TypeVar("Settled", bound=SizeOptions)
@@ -70,14 +84,17 @@ def settled_sizes(options: Settled) -> Settled:
     """The options with what is the default on this machine."""
     most = options.max_buffered or default_buffered()
     sizes = {"max_buffered": most, "max_frame": options.max_frame or min(most, LONGEST_FRAME)}
-    return dataclasses.replace(options, pgsub=options.pgsub or program(), **sizes)
+    is_bounded = bool(options.max_buffered) or options.spool_memory == NO
+    in_memory = options.spool_memory or default_in_memory()
+    more = {"spool_memory": in_memory, "is_bounded": is_bounded}
+    return dataclasses.replace(options, pgsub=options.pgsub or program(), **sizes, **more)
 
 
 ACCEPTED = (*KINDS, "all", PLAINTEXT)
 
 
 # How far a server is watched.
-ALL, RULES, NO = "all", "rules", "no"
+ALL, RULES = "all", "rules"
 
 
 @dataclasses.dataclass(frozen=True)

@@ -7,14 +7,22 @@ from collections.abc import Callable, Iterable
 from typing import Any, TypeVar
 
 from pgsub_feed.errors import UsageError
-from pgsub_feed.options import file, lsn, no, option
+from pgsub_feed.options import file, lsn, no, option, size
 from pgsub_feed.texts import is_utf_8
 
 from ...store.placing import check_apart
 
 
+# What leaves something out.
+NO = "no"
+
+
 def lsn_or_now(text: str) -> int | str:
     return text if text == "now" else lsn(text)
+
+
+def size_or_no(text: str) -> int | str:
+    return text if text == NO else size(text)
 
 
 def mode_of(text: str) -> int:
