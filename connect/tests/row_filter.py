@@ -269,7 +269,10 @@ class Spool:
             raise Fault(13, "pgsub: spool 3 NotWritten") from None
 
     def write(self, item: bytes) -> None:
-        os.write(self.file, item)
+        try:
+            os.write(self.file, item)
+        except OSError:
+            raise Fault(13, "pgsub: spool 4 NoRoom") from None
         if os.path.exists(self.fault):
             with open(self.fault, encoding="ascii") as file:
                 line = file.read()

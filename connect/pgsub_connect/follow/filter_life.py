@@ -20,12 +20,15 @@ from ..stream.watch_lines import Told, is_unusable
 from .drift_watch import Watch
 from .feed import Feeding
 from .settings import Ending, StreamForm
+from .spool_faults import SpoolFaults
 
 # How long the filter is waited for, and slept, before it is looked for the end, in seconds.
 STEP, SLEEP = 0.5, 0.2
 # After how many seconds each a store that can't be opened is tried again, the last for ever.
 OPENED_AFTER = (1, 2, 4, 8, 15, 30)
 IN_USE = "the store can't be opened now, as where another program has it open"
+# Why transactions come whole from now on.
+TOO_MUCH = "open transactions were too much at a time"
 
 
 class FilterLife:
@@ -44,6 +47,7 @@ class FilterLife:
         self.confirming, self.noting, self.misses = confirming, confirming.noting, confirming.misses
         self.watch, self.form, self.ending, self.feeding = watch, form, ending, feeding
         self.kills = Kills(limits)
+        self.spool = SpoolFaults(self.filter, self.progress)
         # whether a filter has begun here; one that runs before that has loaded the first rows
         self.has_begun = False
 
@@ -57,6 +61,7 @@ class FilterLife:
     def begin(self, position: int) -> None:
         """A filter has opened its store, which is at this position."""
         self.has_begun = True
+        self.spool.begin_filter()
         if self.filter.trusts:
             log.info("the store is as the filter before left it, so its rows weren't read")
         self.confirming.begin_store(position)
@@ -157,13 +162,11 @@ class FilterLife:
 
     def note_end(self, ended: FilterEnded) -> None:
         """Notes why the filter ended. Raises where the same would come of another try."""
-        why = "open transactions were too much at a time"
-        if not (ended.status == SPOOL_FULL and self.form.stop_streaming(why)):
+        if self.spool.is_again(ended):
+            self.form.stop_streaming(TOO_MUCH)
+        if not (ended.status == SPOOL_FULL and self.form.stop_streaming(TOO_MUCH)):
             largest = self.noting.largest()
-            cure = limit_text(ended, self.limits, largest, self.noting.longest)
-            if self.feeding and not cure:
-                cure = self.feeding.text_of(ended.said)
-            ended.note_cure(cure)
+            ended.note_cure(self.cure_of(ended, largest))
             if ended.cure:
                 (log.error if ended.is_rejection() else log.warning)(ended.cure)
             if ended.is_rejection():
@@ -177,6 +180,13 @@ class FilterLife:
             self.kills.note(ended, *largest)
             log.warning(f"{ended}: it is started again")
         self.progress.note_restart(ended.with_cure())
+
+    def cure_of(self, ended: FilterEnded, largest: tuple[int, int]) -> str:
+        """What is to be done about a filter's end, "" where nothing is known. `largest`: the
+        largest transaction that isn't stored, and its bytes."""
+        cure = limit_text(ended, self.limits, largest, self.noting.longest)
+        cure = cure or self.spool.note(ended)
+        return cure or (self.feeding.text_of(ended.said) if self.feeding else "")
 
     def tell_rejected(self, ended: FilterEnded) -> None:
         """Tells which commit, the first above its store's position, the filter has rejected."""

@@ -128,7 +128,9 @@ class Follower:
         if not self.ending.stop_asked:
             self.progress.enter("waiting to connect again")
         while not self.ending.stop_asked and (
-            (left := until - time.monotonic()) > 0 or self.standing.lasts()
+            (left := until - time.monotonic()) > 0
+            or self.standing.lasts()
+            or self.life.spool.lacks_room()
         ):
             self.progress.beat()
             self.requests.holds_for_copy()
@@ -136,4 +138,4 @@ class Follower:
                 self.life.serve_alone(min(left, STEP) if left > 0 else STEP, [socket.fileno()])
                 self.life.tend_misses()
             else:
-                socket.rest(max(0.0, min(left, SLEEP)))
+                socket.rest(min(left, SLEEP) if left > 0 else SLEEP)

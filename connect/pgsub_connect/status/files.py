@@ -69,6 +69,8 @@ def shown_stream(progress: Progress, rate: float, now: float) -> dict[str, objec
         "sessions": progress.server.sessions,
         "filter_restarts": progress.restarts,
         "filter_losses": progress.losses(now) or None,
+        "spool_bytes": progress.spool.bytes(),
+        "spool_error": progress.spool.fault(stream.confirmed) or None,
     }
 
 

@@ -12,10 +12,15 @@ from pgsub_feed.version import OWN, VERSION
 # Of which kind the fields are that are looked at.
 KINDS: dict[str, Callable[[Any], object]] = {
     **dict.fromkeys(("found", "tables_aside", "readers", "sinks", "adding"), json_texts.object_of),
-    **dict.fromkeys(("lag_bytes", "filter_losses", "copied_rows"), json_texts.whole_of),
+    **dict.fromkeys(
+        ("lag_bytes", "filter_losses", "copied_rows", "spool_bytes"), json_texts.whole_of
+    ),
     **dict.fromkeys(("lag_seconds", "changes_per_second"), json_texts.number_of),
     **dict.fromkeys(
-        ("position", "wal_status", "tables_error", "tables_missing", "last_error", "store"),
+        (
+            *("position", "wal_status", "tables_error", "tables_missing", "last_error", "store"),
+            "spool_error",
+        ),
         json_texts.text_of,
     ),
 }
@@ -88,11 +93,13 @@ def of_lag(status: dict[str, Any], limits: Iterable[Limit]) -> Iterator[Fault]:
 
 
 def of_parts(status: dict[str, Any]) -> Iterator[Fault]:
-    """Of the slot and of the filter."""
+    """Of the slot, of the filter and of the file of open transactions."""
     if status.get("wal_status") == "lost":
         yield Fault(
             "the slot is lost", f"`pgsub-connect drop {named(status)} --dsn ..`, and copy anew"
         )
+    if error := status.get("spool_error"):
+        yield Fault("the changes of open transactions can't be kept on the disk", error)
     if (losses := status.get("filter_losses") or 0) > LOSSES:
         why = status.get("last_error")
         yield Fault(
@@ -183,6 +190,8 @@ def line_of(status: Mapping[str, Any], age: float, wrong: list[Fault]) -> str:
     parts = [status["state"], behind_text(status)]
     if "position" in status:
         parts.append(f"at {status['position']}")
+    if size := status.get("spool_bytes"):
+        parts.append(f"{counted(size, 'byte')} of open transactions on the disk")
     parts.append(f"heartbeat {age:.0f} s ago")
     is_waiting = status["state"] == "waiting to connect again"
     if (wrong or is_waiting) and status.get("last_error"):

@@ -45,6 +45,8 @@ def metrics(progress: Progress, now: float) -> Iterator[Metric]:
     beat = "pgsub_heartbeat_timestamp_seconds", "When the main loop was alive last."
     yield gauge(*beat, progress.heartbeat)
     yield from (gauge(*it) for it in of_stream(progress.stream, now))
+    if progress.spool.path:
+        yield from (gauge(*it) for it in of_spool(progress))
     yield from slot_metrics(progress.slot)
     text = "What was found that may have made the copy wrong."
     yield chosen("pgsub_found", text, "kind", KINDS, set(progress.findings.found))
@@ -71,6 +73,15 @@ def of_stream(it: StreamCounters, now: float) -> Told:
         ("pgsub_server_end_lsn", "Where the server's log ends.", it.server_end() or None),
         ("pgsub_lag_bytes", "How much of the server's log the copy lacks.", it.lag_bytes()),
         ("pgsub_lag_seconds", age, it.lag.seconds(now)),
+    )
+
+
+def of_spool(it: Progress) -> Told:
+    size = "How large the file of open transactions is."
+    failed = "Whether that file has failed, and what it lacked isn't stored yet."
+    return (
+        ("pgsub_spool_bytes", size, it.spool.bytes()),
+        ("pgsub_spool_failed", failed, int(bool(it.spool.fault(it.stream.confirmed)))),
     )
 
 
