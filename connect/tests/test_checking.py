@@ -6,7 +6,10 @@ import contextlib
 import dataclasses
 import io
 import json
+import os
+import tempfile
 import unittest
+from pathlib import Path
 from typing import Any
 from unittest import mock
 
@@ -454,6 +457,20 @@ class Printing(unittest.TestCase):
                 self.printed(well()),
                 (4, "error role: permission denied\n  DETAIL:  Only roles\\x1b[2J\n"),
             )
+
+    def test_what_open_transactions_have_on_the_disk(self) -> None:
+        with tempfile.TemporaryDirectory() as folder:
+            store = folder + "/copy.db"
+            self.assertNotIn("spool", self.printed(well(), store=store)[1])
+            os.mkdir(store + ".spool")
+            Path(store + ".spool/transactions").write_bytes(bytes(70))
+            status, text = self.printed(well(), store=store)
+            said = f"ok spool: 70 bytes of open transactions are in {store}.spool"
+            self.assertEqual((status, text.splitlines()[-1]), (0, said))
+            os.rename(store + ".spool", store + ".other")
+            os.symlink("copy.db.other", store + ".spool")
+            status, text = self.printed(well(), store=store)
+            self.assertEqual((status, "error spool: " in text), (4, True))
 
     def test_json(self) -> None:
         status, text = self.printed(well(), json=True)

@@ -186,6 +186,22 @@ class Dropping(Quiet):
             (["copy.db2", "far", "rows.db"], ["shop.db.connector"]),
         )
 
+    def test_what_open_transactions_have_left(self) -> None:
+        """As where connector and filter were killed; it is told, too."""
+        os.mkdir(self.store + ".spool")
+        Path(self.store + ".spool/transactions").write_bytes(bytes(100))
+        self.run_it()
+        self.assertTrue(any(f"{self.store}.spool" in it for it in self.asked), self.asked)
+        self.assertEqual(self.left(), ["copy.db2", "rows.db"])
+
+    def test_a_link_in_that_place(self) -> None:
+        os.mkdir(self.folder + "/mine")
+        Path(self.folder, "mine/transactions").touch()
+        os.symlink("mine", self.store + ".spool")
+        self.run_it()
+        self.assertEqual(self.left(), ["copy.db2", "mine", "rows.db"])
+        self.assertEqual(os.listdir(self.folder + "/mine"), ["transactions"])
+
     def test_files_of_others_stay(self) -> None:
         """Whatever they have in their names behind the store's."""
         kept = [

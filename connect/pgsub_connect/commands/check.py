@@ -16,6 +16,7 @@ from ..server.preflight import all_facts
 from ..server.transport import OWN
 from ..store.at_rest import is_whole
 from ..store.full_check import judge_rows
+from ..store.spool_folder import judge_spool
 from .arguments.feed import messages_option
 from .arguments.server import (
     CopyOptions,
@@ -79,6 +80,8 @@ def run(options: Options, check: Check) -> int:
     found = results(facts, options.purpose())
     if options.store and is_whole(options.store):
         found.append(judge_rows(options.pgsub or program(), options.store, check))
+    if options.store and (result := judge_spool(options.store)):
+        found.append(result)
     if options.json:
         json.dump([dataclasses.asdict(it) for it in found], sys.stdout, indent=1)
         sys.stdout.write("\n")

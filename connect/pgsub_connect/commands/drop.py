@@ -32,6 +32,7 @@ from ..server.session import Subscription, database_oid, is_same_database, of_sl
 from ..status.files import STATUS
 from ..store.checkpoint import locked, read_known
 from ..store.placing import OF_STORE
+from ..store.spool_folder import SUFFIX as SPOOL, remove_spool
 from .arguments.server import StoreOptions, settled_store
 from .arguments.words import store_option
 
@@ -212,7 +213,7 @@ class Dropper:
             return
         for path in files:
             with told_of(path):
-                remove_feed(path) if os.path.isdir(path) else remove(path)
+                self.remove(path)
         gone = [it for it in files if not os.path.lexists(it)]
         log.info(f"removed {', '.join(gone)}")
         if read := [it for it in read if it not in gone]:
@@ -220,6 +221,15 @@ class Dropper:
                 f"what others may read stays: {', '.join(read)}. Once nobody does, and before another copy begins there:"
                 f" rm -r {' '.join(map(shlex.quote, read))}"
             )
+
+    def remove(self, path: str) -> None:
+        """Removes a file, or of a folder what is ours."""
+        if path == self.store + SPOOL:
+            remove_spool(path)
+        elif os.path.isdir(path):
+            remove_feed(path)
+        else:
+            remove(path)
 
     def files_read(self) -> list[str]:
         """The feed and the tables of the store that are there, which others may read."""
