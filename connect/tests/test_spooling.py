@@ -2,6 +2,7 @@
 
 from __future__ import annotations
 
+import dataclasses
 import errno
 import os
 import stat
@@ -24,7 +25,7 @@ from pgsub_feed.errors import FileError, Passing, UsageError
 
 from . import test_filtering
 from .fake_server import Quiet
-from .settled import options_of
+from .settled import options_of, settled
 from .test_filtering import FAKE
 from .vectors import begin, commit, insert
 
@@ -229,6 +230,19 @@ class Words(Case):
                 options = options_of(["follow", "--store", self.store, *words])
                 limits = session.settled_sizes(options).limits()
                 self.assertEqual(limits, BufferLimits(1 << 29, 1 << 29, bounded))
+
+    def test_what_a_follower_leaves(self) -> None:
+        """No folder, unless something is in it; its size is shown from the start."""
+        words = ["follow", "--store", self.store, "--dsn", "", "--pgsub", FAKE]
+        for names in ((), ("mine",)):
+            parts = follow.made(settled(words), mock.Mock(file=0))
+            self.assertEqual(parts.common.progress.spool.bytes(), 0)
+            self.put(*names)
+            dataclasses.replace(parts, threads=()).finish()
+            self.assertEqual(self.folder.exists(), bool(names))
+        parts = follow.made(settled([*words, "--spool-memory", "no"]), mock.Mock(file=0))
+        self.assertIsNone(parts.common.progress.spool.bytes())
+        dataclasses.replace(parts, threads=()).finish()
 
     def test_a_start_is_refused_before_anything_is_made(self) -> None:
         self.folder.touch()
