@@ -15,6 +15,8 @@ from .wire import Change, Column, Definition, lsn_text
 
 # more bytes than this aren't run
 ENOUGH = 30000000
+# how many bytes of open transactions stay in memory where others go on in a file
+SPOOL_MEMORY = (0, 1, 40, 100, 300, 2000)
 
 
 class Difference(Exception):
@@ -126,6 +128,14 @@ def resumed(program, read, file):
 def cache_words(number):
     """Asks each run over a file for another number of pages in memory."""
     return ([], ["--cache", "100"], ["--cache=4000"])[number % 3]
+
+
+def spool_words(number, program):
+    """Has open transactions of every second run go on in a file, so few bytes of them in memory."""
+    if number % 2:
+        return []
+    memory = SPOOL_MEMORY[number // 2 % len(SPOOL_MEMORY)]
+    return ["--spool", program.path_of("spool"), f"--spool-memory={memory}"]
 
 
 def check_store(program, store, read):
@@ -306,7 +316,8 @@ def followed(case, program):
         read = read.restarted()
         after = Followed(read).follow(part)
         file = program.file(f"input.{number}", part)
-        compare_followed("following", program, [*words, *cache_words(number)], after, file)
+        more = [*cache_words(number), *spool_words(number + len(part), program)]
+        compare_followed("following", program, [*words, *more], after, file)
         check_store(program, store, read)
     compare(
         "what the file holds",

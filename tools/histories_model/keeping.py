@@ -32,6 +32,7 @@ from .cases import (
     compare,
     compare_followed,
     damage,
+    spool_words,
     stop_line,
     version_words,
 )
@@ -171,6 +172,7 @@ class Runs:
         if why:
             compare(what, self.program, whole, 3, b"", stop_line(why), file if is_live else None)
         elif is_live:
+            words = [*words, *spool_words(self.number + len(sessions[0]), self.program)]
             compare_followed(what, self.program, words, Followed(read).follow(*sessions), file)
         else:
             read.follow(sessions)

@@ -14,6 +14,7 @@ from .cases import (
     check_store,
     compare,
     compare_followed,
+    spool_words,
     stop_line,
     version_words,
 )
@@ -107,6 +108,7 @@ class Loaded:
             read.writer.open(read.position, self.asked)
         followed = Followed(read).follow(content)
         file = self.program.file(f"input.{self.number}", begun + content)
+        more = [*more, *spool_words(self.number + len(content), self.program)]
         compare_followed("after a load", self.program, self.words(*more), followed, file)
         check_store(self.program, self.store, read)
         told = self.program.feed_findings(self.feed, read.writer.files()) if self.asked else []

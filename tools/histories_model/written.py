@@ -7,7 +7,7 @@ from pathlib import Path
 from stores.text import PAGE_SIZES, Writer
 
 from . import tables as model
-from .cases import check_store, compare, compare_followed, stop_line, version_words
+from .cases import check_store, compare, compare_followed, spool_words, stop_line, version_words
 from .followed import Followed
 from .history import Maker, Values
 from .reader import Reader
@@ -95,7 +95,8 @@ class Turns:
     def follow(self, content):
         followed = Followed(self.read).follow(content)
         file = self.program.file(f"input.{self.number}", content)
-        compare_followed("followed after SQL text", self.program, self.words(), followed, file)
+        words = [*self.words(), *spool_words(self.number + len(content), self.program)]
+        compare_followed("followed after SQL text", self.program, words, followed, file)
 
     def words(self):
         return [*self.store_words(), *version_words(self.rng, self.version)]

@@ -20,9 +20,10 @@ from .walking import walk
 
 # What takes longer, in seconds, doesn't come: a busy machine gets on in this time.
 LATE = 300
-# What is done of `tools/large`, and by how many its sizes are divided.
+# What is done of `tools/large`, how many bytes of open transactions stay in memory, and by how many
+# its sizes are divided.
 LARGE = ("inserts", "identity-full", "update", "subtransactions", "delete")
-OF = 1000
+IN_MEMORY, OF = 64 << 10, 1000
 
 
 def run(options: Options, checks: Checks) -> None:
@@ -72,7 +73,7 @@ def equal(run: Run) -> str:
 
 def large(options: Options) -> str:
     """Large transactions, with a kill in each."""
-    form = Form(options.proto or 2, kills=1)
+    form = Form(options.proto or 2, kills=1, in_memory=IN_MEMORY)
     with contextlib.closing(Place(options, server_of(options, form))) as place:
         place.closing.callback(place.cluster.remove)
         return run_steps(Large(place, Size(OF), form), LARGE)

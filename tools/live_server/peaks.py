@@ -32,12 +32,15 @@ def forget_peak(pid: int) -> None:
 
 
 class Peaks(threading.Thread):
-    """Looks at a connector, its filter, and what keeps its tables, again and again."""
+    """Looks at a connector, its filter, what keeps its tables, and the file of open transactions,
+    again and again."""
 
-    def __init__(self, connector: Callable[[], int]) -> None:
+    def __init__(self, connector: Callable[[], int], spool: Path) -> None:
         super().__init__(daemon=True)
-        self.connector, self.ended = connector, threading.Event()
+        self.connector, self.spool, self.ended = connector, spool, threading.Event()
         self.most = {"connector": 0, "filter": 0, "tables": 0}
+        # how many bytes the file had
+        self.spooled = 0
 
     def processes(self) -> dict[str, list[int]]:
         pid = self.connector()
@@ -47,13 +50,15 @@ class Peaks(threading.Thread):
         while not self.ended.wait(STEP):
             for part, pids in self.processes().items():
                 self.most[part] = max(self.most[part], *map(peak_of, pids), 0)
+            with contextlib.suppress(FileNotFoundError):
+                self.spooled = max(self.spooled, self.spool.stat().st_size)
 
     def begin(self) -> None:
         """Forgets what they took before."""
         for pids in self.processes().values():
             for pid in pids:
                 forget_peak(pid)
-        self.most = dict.fromkeys(self.most, 0)
+        self.most, self.spooled = dict.fromkeys(self.most, 0), 0
 
     def end(self) -> None:
         self.ended.set()
@@ -65,7 +70,8 @@ class Peaks(threading.Thread):
 
     def text(self) -> str:
         taken = [f"{part} {most >> 10}" for part, most in self.most.items() if most]
-        return f"{', '.join(taken)} MB"
+        file = f", {self.spooled >> 20} MB in a file" if self.spooled else ""
+        return f"{', '.join(taken)} MB{file}"
 
 
 class Group:

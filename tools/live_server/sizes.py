@@ -47,6 +47,9 @@ FRAME = re.compile(r"--max-frame (\d+)")
 TOO_LARGE = re.compile(r"has (?:at least )?(\d+) bytes, and \d+ may be buffered")
 KILLED_TWICE = "twice in the transaction"
 NOBODY = "nobody follows into"
+# The file of open transactions beside a store, and how much of them stays in memory by default: so
+# many bytes, or a part of the memory.
+SPOOL, IN_MEMORY, PART = ".spool/transactions", 64 << 20, 8
 # How often one step may reach a limit, or be started again because it was killed twice.
 MOST_TRIES = 30
 # For how many seconds at most locks are waited for to compare.
@@ -75,12 +78,14 @@ class Size:
 
 @dataclasses.dataclass(frozen=True)
 class Form:
-    """How it is followed. `memory`: how many megabytes connector and filter may take, 0 for any."""
+    """How it is followed. `memory`: how many megabytes connector and filter may take, 0 for any;
+    `in_memory`: how many bytes of open transactions stay there, 0 for what is the default."""
 
     proto: int = 2
     fed: bool = True
     kills: int = 0
     memory: int = 0
+    in_memory: int = 0
 
 
 TABLES = ("large", "nested", "beside", "wide", "mark")
@@ -176,18 +181,20 @@ class Large(Tables):
         self.form = form
         self.rng = random.Random(f"large {place.options.seed} {size.of} {form}")
         self.limits: list[str] = []
-        self.more = {} if not form.memory else {"--max-buffered": form.memory << 19}
+        self.more = {"--spool-memory": form.in_memory} if form.in_memory else {}
         self.group: Group | None = None
         if form.memory and Group.can_be_made():
-            # (half of the group's memory is what the connector takes by itself)
-            self.group, self.more = Group(f"pgsub-{place.folder.name}", form.memory), {}
+            self.group = Group(f"pgsub-{place.folder.name}", form.memory)
             place.closing.callback(self.group.remove)
-        self.starts = self.killed = 0
+        elif form.memory and not form.in_memory:
+            # (in a group the connector takes that part of its memory by itself)
+            self.more = {"--spool-memory": min(IN_MEMORY, (form.memory << 20) // PART)}
+        self.starts = self.killed = self.spooled = 0
         # whether the copy had the server's rows after the last step
         self.is_equal = True
         self.supervisor = self.started("--create")
         place.closing.callback(lambda: self.supervisor.kill())
-        self.peaks = Peaks(lambda: self.supervisor.child.pid)
+        self.peaks = Peaks(lambda: self.supervisor.child.pid, place.beside(SPOOL))
         self.peaks.start()
         place.closing.callback(self.peaks.end)
         self.wait_for(self.end())
@@ -265,6 +272,7 @@ class Large(Tables):
         made = ended[0] - began
         self.wait_for(self.end())
         took = time.monotonic() - began
+        self.spooled = max(self.spooled, self.peaks.spooled)
         return f"{took:.1f} s, {made:.1f} of them the server's; {self.peaks.text()}"
 
     def step(self, name: str) -> str:
@@ -354,9 +362,8 @@ class Large(Tables):
         count = compare(server, copy, "the store")
         if self.form.fed:
             compare(server, digests_of_tables(self.place), "the tables")
-        spool = self.place.beside(".spool")
-        if left := sorted(spool.iterdir()) if spool.exists() else []:
-            raise Failed(f"the spool's folder has {left[:3]}")
+        if (spool := self.place.beside(SPOOL).parent).exists():
+            raise Failed(f"{spool} is left, with {sorted(spool.iterdir())}")
         return f"{count} rows are equal"
 
 
@@ -398,5 +405,7 @@ def run_steps(large: Large, names: Iterable[str]) -> str:
         took = large.run(name)
         if exceeded := large.exceeded():
             raise Failed(f"{name}: {exceeded}; {took}")
+    if large.form.in_memory and not large.spooled:
+        raise Failed("nothing of it went on in a file")
     large.verify()
     return f"{large.compare()}, after {large.killed} kills"

@@ -2,9 +2,11 @@
 
 from __future__ import annotations
 
+import os
 import subprocess
 import sys
 import tempfile
+import time
 import unittest
 from pathlib import Path
 
@@ -13,7 +15,8 @@ try:
     from live_server.cluster import Cluster
     from live_server.digests import Digest, compare, digests_of
     from live_server.errors import Failed
-    from live_server.peaks import Group, forget_peak, peak_of
+    from live_server.follower import wait_until
+    from live_server.peaks import STEP, Group, Peaks as Followed, forget_peak, peak_of
 except ModuleNotFoundError:
     raise unittest.SkipTest("psycopg is needed") from None
 
@@ -37,6 +40,22 @@ class Peaks(unittest.TestCase):
             child.stdin.close()
             child.wait()
             self.assertEqual(peak_of(child.pid), 0)
+
+    def test_the_most_that_a_file_had(self) -> None:
+        """It grows, and goes; what it had before isn't told from now on."""
+        with tempfile.TemporaryDirectory() as folder:
+            file = Path(folder, "transactions")
+            peaks = Followed(os.getpid, file)
+            peaks.start()
+            self.addCleanup(peaks.end)
+            file.write_bytes(bytes(3 << 20))
+            wait_until(lambda: peaks.spooled > 0, "looking at it")
+            file.unlink()
+            time.sleep(5 * STEP)
+            self.assertEqual((peaks.spooled, "3 MB in a file" in peaks.text()), (3 << 20, True))
+            peaks.begin()
+            time.sleep(5 * STEP)
+            self.assertEqual((peaks.spooled, "in a file" in peaks.text()), (0, False))
 
 
 class Groups(unittest.TestCase):

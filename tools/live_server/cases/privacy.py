@@ -27,7 +27,8 @@ print(store.execute("SELECT count(*) FROM rel").fetchone()[0])
 
 
 def modes(place: Place, *words: str) -> dict[str, int]:
-    """The modes of all files beside a follower that runs, while it does and after it has ended."""
+    """The modes of all files beside a follower that runs, while it does and after it has ended. The
+    folder of open transactions is its owner's alone."""
     beside = {"status": "--status-file", "sessions.pgx": "--record"}
     more = [it for name, option in beside.items() for it in (option, str(place.folder / name))]
     child = place.start("--create", *more, *words)
@@ -38,6 +39,8 @@ def modes(place: Place, *words: str) -> dict[str, int]:
         for it in place.folder.iterdir()
         if it.is_file() and it != place.log
     }
+    if (mode := place.beside(".spool").stat().st_mode & 0o777) != 0o700:
+        raise Failed(f"the folder of open transactions has mode {mode:o}")
     child.stop()
     return {
         **found,

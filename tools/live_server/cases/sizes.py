@@ -22,9 +22,9 @@ LITTLE, MEMORY = 48 << 20, "filter ended with status 14"
 MOST_RAISED = 8
 
 
-def followed(place: Place, *steps: str, proto: int = 2) -> None:
+def followed(place: Place, *steps: str, proto: int = 2, in_memory: int = 0) -> None:
     version = place.options.installed.version
-    form = Form(min(proto, 1 if version < 14 else 2), kills=KILLS)
+    form = Form(min(proto, 1 if version < 14 else 2), kills=KILLS, in_memory=in_memory)
     run_steps(Large(place, Size(OF), form), steps)
 
 

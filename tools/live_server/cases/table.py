@@ -50,6 +50,7 @@ from . import (
     sinking,
     sizes,
     slots,
+    spooling,
     standbys,
     starts,
     stops,
@@ -112,7 +113,7 @@ THEMES: dict[str, Sequence[Case]] = {
     "privacy": privacy.CASES,
     "operating": (*operating.CASES, *confining.CASES),
     "waiting": waiting.CASES,
-    "sizes": sizes.CASES,
+    "sizes": (*sizes.CASES, *spooling.CASES),
     "altering": (*altering.CASES, *healing.CASES),
     "first-hour": (*first_hour.CASES, *first_words.CASES),
 }
