@@ -2124,8 +2124,8 @@ BUGS = (
     Bug(
         "open transactions go on in a file in spite of no",
         "pgsub_connect/commands/follow.py",
-        "None if options.spool_memory == words.NO else SpoolFolder(options.store)",
-        "SpoolFolder(options.store)",
+        "    if options.spool_memory == words.NO:\n        return child.buffer([MAX_BUFFERED, str(most)])\n",
+        "",
         ("test_spooling",),
     ),
     Bug(
@@ -2141,6 +2141,34 @@ BUGS = (
         "is_bounded = bool(options.max_buffered) or options.spool_memory == NO",
         "is_bounded = options.spool_memory == NO",
         ("test_spooling",),
+    ),
+    Bug(
+        "open transactions never go on in a file unless it is asked for",
+        "pgsub_connect/commands/follow.py",
+        "    if not options.is_bounded or most > first:\n",
+        "    if options.is_bounded and most > first:\n",
+        ("test_spooling",),
+    ),
+    Bug(
+        "an operator's limit of open transactions is one of memory",
+        "pgsub_connect/commands/follow.py",
+        "    first = min(most, default_buffered())\n",
+        "    first = most\n",
+        ("test_spooling",),
+    ),
+    Bug(
+        "what a killed run has left of open transactions stays",
+        "pgsub_connect/commands/follow.py",
+        "    spool.end()\n    spool.remove()\n",
+        "",
+        ("test_spooling",),
+    ),
+    Bug(
+        "whole transactions are asked for where a file would do",
+        "pgsub_connect/follow/filter_life.py",
+        "(self.spill() or self.form.stop_streaming(TOO_MUCH))",
+        "(self.form.stop_streaming(TOO_MUCH) or self.spill())",
+        ("test_spool_faults",),
     ),
     Bug(
         "a small control group keeps as much of open transactions in memory as a large one",

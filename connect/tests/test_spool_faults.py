@@ -42,6 +42,21 @@ class Faults(test_passing.Case):
     def shown(self) -> dict[str, Any]:
         return status_fields(self.progress, 0.0, 1e9)
 
+    def test_too_much_for_memory(self) -> None:
+        """They go on in a file then; whole transactions are asked for where that is no way."""
+        full, folder = FilterEnded(10, "pgsub: spool 1 SpoolFull"), self.child.spool
+        assert folder
+        self.child.buffer(["--max-buffered", "7"])
+        self.child.buffer_later(["--spool", folder.path], folder)
+        self.progress.spool.note_path("")
+        for way, streams in ((f"they go on in {self.path}", True), ("they come whole", False)):
+            with logged() as lines:
+                self.life.note_end(full)
+            self.assertIn(way, "\n".join(lines))
+            self.assertEqual(self.life.form.is_streaming(), streams)
+            self.assertEqual(self.child.told()[-2:], ["--spool", folder.path])
+            self.assertEqual(self.progress.spool.path, folder.path)
+
     def test_what_is_told(self) -> None:
         for said, cure in (
             (NO_ROOM, f"there is no room for {self.path}: make room on that disk"),

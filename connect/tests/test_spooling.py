@@ -192,21 +192,47 @@ class Words(Case):
         self.assertEqual(found.words[:4], ["/bin/pgsub", "follow", "--store", self.store])
         return found
 
-    def told(self, *words: str) -> dict[str, str]:
-        found = self.made(*words).words[4:]
+    def told_of(self, child: Filter) -> dict[str, str]:
+        found = child.told()[4:]
         return dict(zip(found[::2], found[1::2]))
 
-    def test_a_file_by_default(self) -> None:
+    def told(self, *words: str) -> dict[str, str]:
+        return self.told_of(self.made(*words))
+
+    def test_memory_first(self) -> None:
+        """And a file once that was too little. So no follower pays for it that needs none."""
+        frame = {"--max-frame": str(1 << 30)}
         with mock.patch.object(memory_limit, "memory", lambda: 1 << 32):
-            told = self.told()
-        path = str(self.folder / "transactions")
-        sizes = {"--spool-memory": str(64 << 20), "--max-frame": str(1 << 30)}
-        self.assertEqual(told, {"--spool": path, **sizes})
+            child = self.made()
+        self.assertEqual(self.told_of(child), {"--max-buffered": str(1 << 30), **frame})
+        self.assertIsNone(child.spool)
+        spool = child.spill()
+        self.assertEqual(spool, child.spool)
+        self.assertEqual(spool and spool.path, str(self.folder / "transactions"))
+        sizes = {"--spool-memory": str(64 << 20), **frame}
+        self.assertEqual(self.told_of(child), {"--spool": spool and spool.path, **sizes})
+        self.assertIsNone(child.spill())
+
+    def test_a_limit_above_memory(self) -> None:
+        """What an operator allows in all is no more memory than there is."""
+        for most, goes_on in (((1 << 30) - 1, False), (1 << 30, False), (1 << 31, True)):
+            with mock.patch.object(memory_limit, "memory", lambda: 1 << 32):
+                child = self.made("--max-buffered", str(most))
+                self.assertEqual(self.told_of(child)["--max-buffered"], str(min(most, 1 << 30)))
+                self.assertEqual(child.spill() is not None, goes_on)
+                self.assertEqual(self.told_of(child)["--max-buffered"], str(most))
+
+    def test_what_a_killed_run_left(self) -> None:
+        for words in ((), ("--spool-memory", "no"), ("--spool-memory", "1MB")):
+            self.put("transactions")
+            self.made(*words)
+            self.assertFalse(self.folder.exists(), words)
 
     def test_no_file(self) -> None:
         with mock.patch.object(memory_limit, "memory", lambda: 1 << 30):
             told = self.told("--spool-memory", "no")
-            self.assertIsNone(self.made("--spool-memory", "no").spool)
+            child = self.made("--spool-memory", "no")
+            self.assertEqual((child.spool, child.spill()), (None, None))
         half = str(1 << 29)
         self.assertEqual(told, {"--max-buffered": half, "--max-frame": half})
 
@@ -234,15 +260,17 @@ class Words(Case):
     def test_what_a_follower_leaves(self) -> None:
         """No folder, unless something is in it; its size is shown from the start."""
         words = ["follow", "--store", self.store, "--dsn", "", "--pgsub", FAKE]
+        spooled = [*words, "--spool-memory", "1MB"]
         for names in ((), ("mine",)):
-            parts = follow.made(settled(words), mock.Mock(file=0))
+            parts = follow.made(settled(spooled), mock.Mock(file=0))
             self.assertEqual(parts.common.progress.spool.bytes(), 0)
             self.put(*names)
             dataclasses.replace(parts, threads=()).finish()
             self.assertEqual(self.folder.exists(), bool(names))
-        parts = follow.made(settled([*words, "--spool-memory", "no"]), mock.Mock(file=0))
-        self.assertIsNone(parts.common.progress.spool.bytes())
-        dataclasses.replace(parts, threads=()).finish()
+        for more in (), ("--spool-memory", "no"):
+            parts = follow.made(settled([*words, *more]), mock.Mock(file=0))
+            self.assertIsNone(parts.common.progress.spool.bytes())
+            dataclasses.replace(parts, threads=()).finish()
 
     def test_a_start_is_refused_before_anything_is_made(self) -> None:
         self.folder.touch()

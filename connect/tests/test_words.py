@@ -286,26 +286,16 @@ class Words(Quiet):
     def filter_words(self, *words: str) -> list[str]:
         sizes = "--max-buffered", "5000", "--spool-memory", "1kB"
         options = self.settled(*sizes, "--pgsub", "/bin/pgsub", *words)
-        return follow.make_filter(options, mock.Mock(file=3)).words
+        return follow.make_filter(options, mock.Mock(file=3)).told()
 
     def test_words_of_the_filter(self) -> None:
-        words = [
-            "/bin/pgsub",
-            "follow",
-            "--store",
-            "/nonexistent/s",
-            "--spool",
-            "/nonexistent/s.spool/transactions",
-            "--spool-memory",
-            "1024",
-            "--max-buffered",
-            "5000",
-            "--max-frame",
-            "5000",
-        ]
-        self.assertEqual(self.filter_words(), words)
+        words = ["/bin/pgsub", "follow", "--store", "/nonexistent/s", "--max-frame", "5000"]
+        spool = ["--spool", "/nonexistent/s.spool/transactions", "--spool-memory", "1024"]
+        more = [*spool, "--max-buffered", "5000"]
+        self.assertEqual(self.filter_words(), [*words, *more])
         for pages in ("100", "4294967294"):
-            self.assertEqual(self.filter_words("--cache", pages), [*words, "--cache", pages])
+            told = self.filter_words("--cache", pages)
+            self.assertEqual(told, [*words, "--cache", pages, *more])
 
 
 class Ends(Quiet):

@@ -38,9 +38,10 @@ from ..store.placing import OF_STORE, check_meant
 from ..store.repeats_file import RepeatsFile
 from ..store.spool_folder import SUFFIX as SPOOL, SpoolFolder, check_spool, remove_spool
 from ..stream.common import Common, Tolerance
-from ..stream.filter import SPOOL as SPOOL_WORD, SPOOL_MEMORY, WATCH, Filter
+from ..stream.filter import MAX_BUFFERED, SPOOL as SPOOL_WORD, SPOOL_MEMORY, WATCH, Filter
 from ..stream.filter_end import FilterEnded
 from ..stream.left_file import LeftFile
+from ..stream.memory_limit import default_buffered, default_in_memory
 from .arguments import session, words
 from .arguments.feed import FeedOptions, settled_feed
 from .arguments.following import check_numeric
@@ -288,15 +289,33 @@ def made(options: Options, checkpoint: Checkpoint) -> Parts:
 
 
 def make_filter(options: Options, checkpoint: Checkpoint) -> Filter:
-    spool = None if options.spool_memory == words.NO else SpoolFolder(options.store)
     told = [options.pgsub, "follow", "--store", meant(options.store)]
-    if spool:
-        told += [SPOOL_WORD, spool.path, SPOOL_MEMORY, str(options.spool_memory)]
-    told += ["--max-buffered", str(options.max_buffered)] if options.is_bounded else []
     told += ["--max-frame", str(options.max_frame)]
     told += ["--cache", str(options.cache)] if options.cache else []
     left = LeftFile(options.store, options.check_every)
-    return Filter(told, (checkpoint.file,), options.proto, options.mode, left, spool)
+    child = Filter(told, (checkpoint.file,), options.proto, options.mode, left)
+    begin_buffering(options, child)
+    return child
+
+
+def begin_buffering(options: Options, child: Filter) -> None:
+    """Has the filter buffer open transactions in memory, or in memory and a file; unless it is said
+    which, in a file once they were too much for memory, since a file costs each change a little."""
+    spool, most = SpoolFolder(options.store), options.max_buffered
+    # (what a killed run has left)
+    spool.end()
+    spool.remove()
+    stays = options.spool_memory or default_in_memory()
+    in_file = [SPOOL_WORD, spool.path, SPOOL_MEMORY, str(stays)]
+    in_file += [MAX_BUFFERED, str(most)] if options.is_bounded else []
+    if options.spool_memory == words.NO:
+        return child.buffer([MAX_BUFFERED, str(most)])
+    if options.spool_memory:
+        return child.buffer(in_file, spool)
+    first = min(most, default_buffered())
+    child.buffer([MAX_BUFFERED, str(first)])
+    if not options.is_bounded or most > first:
+        child.buffer_later(in_file, spool)
 
 
 def begin_watching(options: Options, common: Common, child: Filter) -> None:

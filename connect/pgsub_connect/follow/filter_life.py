@@ -87,7 +87,7 @@ class FilterLife:
             try:
                 return self.filter.start(check)
             except FilterEnded as ended:
-                is_waited_for = tried < len(OPENED_AFTER) and is_full(self.filter.words)
+                is_waited_for = tried < len(OPENED_AFTER) and is_full(self.filter.told())
                 if is_unusable(ended.said) and not is_waited_for:
                     self.note_unusable(ended.said)
                     continue
@@ -164,7 +164,9 @@ class FilterLife:
         """Notes why the filter ended. Raises where the same would come of another try."""
         if self.spool.is_again(ended):
             self.form.stop_streaming(TOO_MUCH)
-        if not (ended.status == SPOOL_FULL and self.form.stop_streaming(TOO_MUCH)):
+        if not (
+            ended.status == SPOOL_FULL and (self.spill() or self.form.stop_streaming(TOO_MUCH))
+        ):
             largest = self.noting.largest()
             ended.note_cure(self.cure_of(ended, largest))
             if ended.cure:
@@ -180,6 +182,15 @@ class FilterLife:
             self.kills.note(ended, *largest)
             log.warning(f"{ended}: it is started again")
         self.progress.note_restart(ended.with_cure())
+
+    def spill(self) -> bool:
+        """Has open transactions go on in a file from now on. Returns false where they do so, or are
+        to stay in memory."""
+        if not (spool := self.filter.spill()):
+            return False
+        log.warning(f"open transactions are too much for memory: they go on in {spool.path}")
+        self.progress.spool.note_path(spool.path)
+        return True
 
     def cure_of(self, ended: FilterEnded, largest: tuple[int, int]) -> str:
         """What is to be done about a filter's end, "" where nothing is known. `largest`: the

@@ -31,6 +31,8 @@ LOAD, WATCH = "--load", "--watch"
 REPEATS = "--repeats"
 # The file in which changes of open transactions go on, and how many bytes of them stay in memory.
 SPOOL, SPOOL_MEMORY = "--spool", "--spool-memory"
+# How many bytes of changes it buffers at most.
+MAX_BUFFERED = "--max-buffered"
 # What has it start without reading the rows of a store that the one before it left.
 TRUST = "--trust-store"
 # What a filter needs of the environment: not the passwords of a server.
@@ -57,8 +59,11 @@ class Filter:
         # where it is to note commits, and whether the one that runs does
         self.repeats: RepeatsFile | None = None
         self.compares = False
-        # where changes go on that its memory doesn't hold, None where all stay there
+        # what it is told of buffering, and where changes go on that its memory doesn't hold, None
+        # where all stay there; and both for the next one, once that was too much for memory
+        self.buffering: list[str] = []
         self.spool = spool
+        self.spare: tuple[list[str], SpoolFolder] | None = None
         # by which one trusts what the one before it left; and whether the one that runs does
         self.left, self.trusts = left, False
         # the last status, and the beginning of the next one
@@ -79,6 +84,26 @@ class Filter:
 
     def add_words(self, words: Sequence[str]) -> None:
         self.words += words
+
+    def buffer(self, words: list[str], spool: SpoolFolder | None = None) -> None:
+        """The next one is told this of buffering. `spool`: where changes go on, if anywhere."""
+        self.buffering, self.spool = words, spool
+
+    def buffer_later(self, words: list[str], spool: SpoolFolder) -> None:
+        """Those after `spill` are told this."""
+        self.spare = words, spool
+
+    def spill(self) -> SpoolFolder | None:
+        """Open transactions were too much for memory: those of the next one go on in a file.
+        Returns where, None where they do so already, or are to stay in memory."""
+        if not self.spare:
+            return None
+        (self.buffering, self.spool), self.spare = self.spare, None
+        return self.spool
+
+    def told(self) -> list[str]:
+        """All that is told to each."""
+        return [*self.words, *self.buffering]
 
     def is_to_stop(self) -> bool:
         """Whether it is to end where its server breaks a rule."""
@@ -140,8 +165,8 @@ class Filter:
         self.compares = self.repeats is not None and not loads
         if self.repeats and self.compares:
             self.repeats.prepare()
-            return [*self.words, REPEATS, self.repeats.path]
-        return self.words
+            return [*self.told(), REPEATS, self.repeats.path]
+        return self.told()
 
     def start(self, check: Check = never) -> int:
         """Starts the filter, waits for its first status, and returns the LSN up to which its store
@@ -255,7 +280,7 @@ class Filter:
         status = self.child.wait()
         while self.said.has_said():
             self.said.read()
-        room = room_text(self.words) if status in ROOMLESS else ""
+        room = room_text(self.told()) if status in ROOMLESS else ""
         ended = FilterEnded(status, self.said.reason(status), room)
         self.close(ended)
         return ended

@@ -31,7 +31,7 @@ def modes(place: Place, *words: str) -> dict[str, int]:
     folder of open transactions is its owner's alone."""
     beside = {"status": "--status-file", "sessions.pgx": "--record"}
     more = [it for name, option in beside.items() for it in (option, str(place.folder / name))]
-    child = place.start("--create", *more, *words)
+    child = place.start("--create", "--spool-memory", "1MB", *more, *words)
     place.catch_up(child)
     wait_until(Path(place.folder / "status").exists, "writing the status file", 60, child.check)
     found = {

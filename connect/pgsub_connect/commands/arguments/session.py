@@ -18,7 +18,6 @@ from ...stream.memory_limit import (
     MOST_PAGES,
     BufferLimits,
     default_buffered,
-    default_in_memory,
 )
 from .server import PLAINTEXT
 from .words import NO, any_seconds, lsn_or_now, seconds, size_or_no, within
@@ -49,7 +48,7 @@ class SizeOptions:
 
     pgsub: str = program_option()
     spool_memory: int | str = option(
-        "how much of open transactions stays in memory, where the rest goes on in a file beside the store; no: all of it, within --max-buffered (default: 64MB, at most an eighth of the memory)",
+        "how much of open transactions stays in memory, where the rest goes on in a file beside the store; no: all of it, within --max-buffered (default: all, and once that was too much, 64MB, at most an eighth of the memory)",
         0,
         type=size_or_no,
         value="SIZE|no",
@@ -85,9 +84,9 @@ def settled_sizes(options: Settled) -> Settled:
     most = options.max_buffered or default_buffered()
     sizes = {"max_buffered": most, "max_frame": options.max_frame or min(most, LONGEST_FRAME)}
     is_bounded = bool(options.max_buffered) or options.spool_memory == NO
-    in_memory = options.spool_memory or default_in_memory()
-    more = {"spool_memory": in_memory, "is_bounded": is_bounded}
-    return dataclasses.replace(options, pgsub=options.pgsub or program(), **sizes, **more)
+    return dataclasses.replace(
+        options, pgsub=options.pgsub or program(), is_bounded=is_bounded, **sizes
+    )
 
 
 ACCEPTED = (*KINDS, "all", PLAINTEXT)
