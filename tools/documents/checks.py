@@ -15,12 +15,12 @@ from . import texts
 SHARES = {
     "README.md": 800,
     "docs/ARCHITECTURE.md": 1700,
-    "docs/PROOFS.md": 3250,
+    "docs/PROOFS.md": 3275,
     "docs/PROTOCOL.md": 3030,
     "docs/OPERATING.md": 3300,
-    "docs/DECISIONS.md": 1400,
+    "docs/DECISIONS.md": 1420,
     "docs/PERFORMANCE.md": 1000,
-    "docs/CONTRIBUTING.md": 1370,
+    "docs/CONTRIBUTING.md": 1325,
     "docs/FEED.md": 1200,
     "docs/FORMATS.md": 1200,
 }
