@@ -26,6 +26,11 @@ print(store.execute("SELECT count(*) FROM rel").fetchone()[0])
 """
 
 
+# The ends of names of what the follower alone reads: the checkpoint, whose lock is the follower's,
+# and how the filter left the store.
+OWN = (".connector", ".left")
+
+
 def modes(place: Place, *words: str) -> dict[str, int]:
     """The modes of all files beside a follower that runs, while it does and after it has ended. The
     folder of open transactions is its owner's alone."""
@@ -53,8 +58,8 @@ def modes(place: Place, *words: str) -> dict[str, int]:
 
 
 def check_modes(place: Place, umask: int, wanted: int, *words: str) -> None:
-    """Follows under a umask, and fails unless each file has this mode; the checkpoint, whose lock
-    is the follower's, is its owner's alone."""
+    """Follows under a umask, and fails unless each file has this mode, but for those that are the
+    follower's alone."""
     place.stock()
     before = os.umask(umask)
     try:
@@ -64,7 +69,7 @@ def check_modes(place: Place, umask: int, wanted: int, *words: str) -> None:
     wrong = {
         name: oct(mode)
         for name, mode in found.items()
-        if mode != (0o600 if name.endswith(".connector") else wanted)
+        if mode != (0o600 if name.endswith(OWN) else wanted)
     }
     if wrong or len(found) < 4:
         raise Failed(f"modes of {len(found)} files: {wrong}")
