@@ -2145,9 +2145,23 @@ BUGS = (
     Bug(
         "open transactions never go on in a file unless it is asked for",
         "pgsub_connect/commands/follow.py",
-        "    if not options.is_bounded or most > first:\n",
-        "    if options.is_bounded and most > first:\n",
+        "    if not in_all or in_all > first:\n",
+        "    if not in_all:\n",
         ("test_spooling",),
+    ),
+    Bug(
+        "more goes on in a file than a commit may have",
+        "pgsub_connect/commands/follow.py",
+        "    in_all = most if options.is_bounded else default_spooled()\n",
+        "    in_all = most if options.is_bounded else None\n",
+        ("test_spooling",),
+    ),
+    Bug(
+        "what may be buffered in memory is told of a file",
+        "pgsub_connect/follow/filter_life.py",
+        "        if most is not None:\n",
+        "        if most is None:\n",
+        ("test_spool_faults",),
     ),
     Bug(
         "an operator's limit of open transactions is one of memory",

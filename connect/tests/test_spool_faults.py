@@ -47,7 +47,7 @@ class Faults(test_passing.Case):
         full, folder = FilterEnded(10, "pgsub: spool 1 SpoolFull"), self.child.spool
         assert folder
         self.child.buffer(["--max-buffered", "7"])
-        self.child.buffer_later(["--spool", folder.path], folder)
+        self.child.buffer_later(["--max-buffered", "9", "--spool", folder.path], folder)
         self.progress.spool.note_path("")
         for way, streams in ((f"they go on in {self.path}", True), ("they come whole", False)):
             with logged() as lines:
@@ -56,6 +56,9 @@ class Faults(test_passing.Case):
             self.assertEqual(self.life.form.is_streaming(), streams)
             self.assertEqual(self.child.told()[-2:], ["--spool", folder.path])
             self.assertEqual(self.progress.spool.path, folder.path)
+        with logged() as lines, self.assertRaises(FilterEnded):
+            self.life.note_end(full)
+        self.assertIn("9 may be buffered of all that are open", "\n".join(lines))
 
     def test_what_is_told(self) -> None:
         for said, cure in (

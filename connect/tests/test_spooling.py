@@ -209,9 +209,21 @@ class Words(Case):
         spool = child.spill()
         self.assertEqual(spool, child.spool)
         self.assertEqual(spool and spool.path, str(self.folder / "transactions"))
-        sizes = {"--spool-memory": str(64 << 20), **frame}
+        sizes = {"--spool-memory": str(64 << 20), "--max-buffered": str(1 << 31), **frame}
         self.assertEqual(self.told_of(child), {"--spool": spool and spool.path, **sizes})
-        self.assertIsNone(child.spill())
+        self.assertEqual((child.most(), child.spill()), (1 << 31, None))
+
+    def test_no_more_than_a_commit_may_have(self) -> None:
+        """Each transaction comes back whole: so a file takes no more than memory does."""
+        for known, most, goes_on in (
+            (1 << 30, 1 << 29, False),
+            (1 << 31, 1 << 30, False),
+            (3 << 30, 3 << 29, True),
+            (None, None, True),
+        ):
+            with mock.patch.object(memory_limit, "memory", lambda: known):  # noqa: B023
+                self.assertEqual(self.made().spill() is not None, goes_on)
+                self.assertEqual(self.made("--spool-memory", "1MB").most(), most)
 
     def test_a_limit_above_memory(self) -> None:
         """What an operator allows in all is no more memory than there is."""

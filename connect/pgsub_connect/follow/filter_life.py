@@ -1,6 +1,7 @@
 """The filter's life: it is started, serves session after session, and ends; what that means."""
 
 import contextlib
+import dataclasses
 import itertools
 
 from pgsub_feed import log
@@ -195,7 +196,10 @@ class FilterLife:
     def cure_of(self, ended: FilterEnded, largest: tuple[int, int]) -> str:
         """What is to be done about a filter's end, "" where nothing is known. `largest`: the
         largest transaction that isn't stored, and its bytes."""
-        cure = limit_text(ended, self.limits, largest, self.noting.longest)
+        limits, most = self.limits, self.filter.most()
+        if most is not None:
+            limits = dataclasses.replace(limits, max_buffered=most)
+        cure = limit_text(ended, limits, largest, self.noting.longest)
         cure = cure or self.spool.note(ended)
         return cure or (self.feeding.text_of(ended.said) if self.feeding else "")
 

@@ -105,6 +105,11 @@ class Filter:
         """All that is told to each."""
         return [*self.words, *self.buffering]
 
+    def most(self) -> int | None:
+        """How many bytes of open transactions it buffers at most, None where it isn't told."""
+        words = self.told()
+        return int(words[words.index(MAX_BUFFERED) + 1]) if MAX_BUFFERED in words else None
+
     def is_to_stop(self) -> bool:
         """Whether it is to end where its server breaks a rule."""
         return WATCH in self.words and self.words[self.words.index(WATCH) + 1] == "stop"

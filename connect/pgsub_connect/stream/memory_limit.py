@@ -48,6 +48,13 @@ def default_buffered() -> int:
     return MOST if known is None else max(LEAST, min(MOST, known // 2))
 
 
+def default_spooled() -> int | None:
+    """What open transactions may have where they go on in a file and that isn't said: half of the
+    memory, since each comes back whole at its commit. None where the memory isn't known."""
+    known = memory()
+    return None if known is None else max(LEAST, known // 2)
+
+
 def default_in_memory() -> int:
     """What `--spool-memory` is where it isn't said: 64 MiB, at most an eighth of the memory."""
     known = memory()

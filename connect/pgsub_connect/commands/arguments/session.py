@@ -54,7 +54,7 @@ class SizeOptions:
         value="SIZE|no",
     )
     max_buffered: int = option(
-        "the most that open transactions may have, in memory and in that file (default: any; of rows that are added or repaired, and with --spool-memory no, half of the memory, at most 1 GiB)",
+        "the most that open transactions may have, in memory and in that file (default: half of the memory; in memory alone, and of rows that are added or repaired, at most 1 GiB)",
         0,
         type=within(1, (1 << 63) - 1),
         value="BYTES",
