@@ -29,6 +29,8 @@ COPY_BOTH = (pq.ExecStatus.COPY_BOTH,)
 COPIES = (pq.ExecStatus.COPY_OUT, pq.ExecStatus.COPY_BOTH, pq.ExecStatus.COPY_IN)
 # How many bytes are dropped at a time.
 DRAINED = 1 << 20
+# How much libpq asks of the system at least where it reads, and how much is a lot, in bytes.
+READ, LOT = 1 << 13, 1 << 16
 NO_DSN = "no --dsn was given, so libpq's environment and defaults say where the server is"
 
 
@@ -215,9 +217,8 @@ class Connection:
         self.run(command, COPY_OUT)
         lines, left, last = list[bytes](), size, 1
         while last >= 0:
-            found, last = self.wire.take(left, size)
+            found, last, left = self.wire.take(left, size)
             lines += found
-            left -= sum(map(len, found))
             if left <= 0:
                 yield lines
                 lines, left = [], size
@@ -261,7 +262,7 @@ class Connection:
         """
         if self.broken:
             raise self.broken
-        found, last = self.wire.take(room, long)
+        found, last = self.taken(room, long)
         try:
             if last == ENDED:
                 self.end_copies()
@@ -273,6 +274,21 @@ class Connection:
                 raise
             return found, True
         return found, None if last == ENDED else last > 0
+
+    def taken(self, room: int, long: int) -> tuple[list[bytes], int]:
+        """Those, with what PQgetCopyData returned behind them. What is read at a time is no longer
+        than libpq's buffer: where it was that, more is read at once, since all else that is done
+        for a lot costs as much as a hundred short messages."""
+        found, last, left = self.wire.take(room, long)
+        before = room
+        while last == 0 and before - left >= READ and room - left < LOT:
+            if not self.wire.consume():
+                self.broken = ServerError(self.error())
+                break
+            before = left
+            more, last, left = self.wire.take(left, long)
+            found += more
+        return found, last
 
     def end_copies(self) -> None:
         """After the last CopyData. Raises the error with which the server ended them, if it did."""

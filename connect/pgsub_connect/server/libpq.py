@@ -5,7 +5,10 @@ session that is copied from and to, which nothing waits for."""
 import contextlib
 import ctypes
 import mmap
+import resource
 import select
+import sys
+from pathlib import Path
 from typing import Any
 
 import psycopg
@@ -148,6 +151,9 @@ GET_COPY_DATA = typed(
     LIBPQ and LIBPQ.PQgetCopyData, ctypes.c_int, ctypes.c_void_p, ctypes.c_void_p, ctypes.c_int
 )
 FREE = typed(LIBPQ and LIBPQ.PQfreemem, None, ctypes.c_void_p)
+# The one that copies a message to a place of the caller's, for which there is nothing to free. (It
+# is given values with their types, made once: to give those of numbers costs as much again.)
+GET_LINE = typed(getattr(LIBPQ, "PQgetlineAsync", None), ctypes.c_int)
 CONSUME_INPUT = typed(LIBPQ and LIBPQ.PQconsumeInput, ctypes.c_int, ctypes.c_void_p)
 PUT_COPY_DATA = typed(
     LIBPQ and LIBPQ.PQputCopyData, ctypes.c_int, ctypes.c_void_p, ctypes.c_char_p, ctypes.c_int
@@ -159,6 +165,13 @@ MADVISE = typed(
 )
 # In pieces of how many bytes a longer message is moved, and how long the system's pages are.
 MOVED, PAGE = 1 << 20, mmap.PAGESIZE
+# As long as any message may be, and how much room that is.
+LONGEST_MESSAGE, ROOM = (1 << 31) - 1, 1 << 31
+# Linux's flag of a mapping for which no memory is set aside, and where it says whether it has that.
+NO_RESERVE, OVERCOMMIT = 0x4000, Path("/proc/sys/vm/overcommit_memory")
+LIMITS = resource.RLIMIT_AS, resource.RLIMIT_DATA
+# Payloads, what PQgetCopyData returned behind them, and how much room is left.
+Taken = tuple[list[bytes], int, int]
 
 
 class Slow:
@@ -176,20 +189,20 @@ class Slow:
         except psycopg.OperationalError:
             return False
 
-    def take(self, room: int, long: int) -> tuple[list[bytes], int]:
+    def take(self, room: int, long: int) -> Taken:
         """Takes payloads of CopyData, as far as there is room for so many bytes, or to the first
-        one that is at least so long. Returns beside them what PQgetCopyData returned last."""
+        one that is at least so long."""
         found, length = list[bytes](), 1
         while room > 0:
             try:
                 length, view = self.raw.get_copy_data(1)
             except psycopg.OperationalError:
-                return found, FAILED
+                return found, FAILED, room
             if length <= 0:
                 break
             found.append(bytes(view))
             room -= length if length < long else room
-        return found, length
+        return found, length, room
 
     def send(self, payload: bytes) -> int:
         """Sends a CopyData, as `flush` does what is there."""
@@ -219,7 +232,7 @@ class Quick(Slow):
     def consume(self) -> bool:
         return bool(CONSUME_INPUT(self.pointer))
 
-    def take(self, room: int, long: int) -> tuple[list[bytes], int]:
+    def take(self, room: int, long: int) -> Taken:
         get, pointer, buffer, place = GET_COPY_DATA, self.pointer, self.buffer, self.place
         found: list[bytes] = []
         length = 1
@@ -232,7 +245,7 @@ class Quick(Slow):
             found.append(moved(payload or 0, length) if is_long else BYTES_AT(payload, length))
             FREE(payload)
             room -= length if length < long else room
-        return found, length
+        return found, length, room
 
     def send(self, payload: bytes) -> int:
         put = PUT_COPY_DATA(self.pointer, payload, len(payload))
@@ -240,6 +253,70 @@ class Quick(Slow):
 
     def flush(self) -> int:
         return int(FLUSH(self.pointer))
+
+
+class Landing:
+    """Room for any message: addresses, to which the system gives memory once they are used."""
+
+    def __init__(self) -> None:
+        flags = mmap.MAP_PRIVATE | mmap.MAP_ANONYMOUS | NO_RESERVE
+        self.memory = mmap.mmap(-1, ROOM, flags=flags)
+        # (a huge page is more than most messages ever need)
+        with contextlib.suppress(OSError):
+            self.memory.madvise(mmap.MADV_NOHUGEPAGE)
+        self.place = ctypes.addressof(ctypes.c_char.from_buffer(self.memory))
+
+    def taken(self, length: int) -> bytes:
+        """The bytes of a message there."""
+        return moved(self.place, length) if length >= MOVED else self.memory[:length]
+
+
+def landing() -> Landing | None:
+    """Such room; None where addresses are few, or cost what others need."""
+    is_limited = any(resource.getrlimit(it)[0] != resource.RLIM_INFINITY for it in LIMITS)
+    if is_limited or sys.maxsize <= ROOM:
+        return None
+    try:
+        is_reserved = OVERCOMMIT.read_text(encoding="ascii").startswith("2")
+        return None if is_reserved else Landing()
+    except OSError:
+        return None
+
+
+class Quickest(Quick):
+    """Has libpq copy each message to one place, by one call where else there are three.
+
+    The place has room for any message. So libpq never gives a part of one, which couldn't be told
+    from a whole one that ends where the room does.
+    """
+
+    def __init__(self, raw: pq.abc.PGconn, pointer: int, landing: Landing) -> None:
+        super().__init__(raw, pointer)
+        self.landing = landing
+        addresses = map(ctypes.c_void_p.from_param, (pointer, landing.place))
+        self.words: tuple[Any, ...] = (*addresses, ctypes.c_int.from_param(LONGEST_MESSAGE))
+
+    def take(self, room: int, long: int) -> Taken:
+        get, (pointer, place, most), memory = GET_LINE, self.words, self.landing.memory
+        found: list[bytes] = []
+        short, length = min(long, MOVED), 1
+        while room > 0:
+            length = get(pointer, place, most)
+            if length < short:
+                if length <= 0:
+                    break
+                found.append(memory[:length])
+                room -= length
+            else:
+                found.append(self.landing.taken(length))
+                room -= length if length < long else room
+        if length:
+            # (the error of a connection that failed comes as a result, as that of the server does)
+            return found, length, room
+        # (0 may stand for a message without bytes too, behind which there may be others)
+        more, length, room = super().take(room, long)
+        found += more
+        return found, length, room
 
 
 def moved(place: int, length: int) -> bytes:
@@ -259,4 +336,7 @@ def moved(place: int, length: int) -> bytes:
 def wire_of(raw: pq.abc.PGconn) -> Slow:
     """That of an open connection."""
     pointer = getattr(raw, "pgconn_ptr", None) if GET_COPY_DATA else None
-    return Slow(raw) if pointer is None else Quick(raw, pointer)
+    if pointer is None:
+        return Slow(raw)
+    place = landing() if GET_LINE else None
+    return Quick(raw, pointer) if place is None else Quickest(raw, pointer, place)
