@@ -2356,6 +2356,13 @@ BUGS = (
         ("test_beginning",),
     ),
     Bug(
+        "what isn't counted up to a store's position is spelled another way round",
+        "pgsub_connect/store/checkpoint_lines.py",
+        "[{it.gap[0]},{it.gap[1]}]",
+        "[{it.gap[1]},{it.gap[0]}]",
+        ("test_checkpoint_lines",),
+    ),
+    Bug(
         "what comes behind a message without bytes waits for more",
         "pgsub_connect/server/libpq.py",
         "        if length:\n            # (the error",

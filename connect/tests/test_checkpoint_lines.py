@@ -11,7 +11,7 @@ from pgsub_connect.status.state import Counted
 from pgsub_connect.store import checkpoint as known_of
 from pgsub_connect.store.at_rest import locked_checkpoint
 from pgsub_connect.store.checkpoint import Checkpoint, read_known
-from pgsub_connect.store.checkpoint_lines import SIZE, Known, line_of
+from pgsub_connect.store.checkpoint_lines import SIZE, TEXT, Known, line_of, spelled_counted
 from pgsub_feed.errors import FileError
 
 from .test_checkpoint import FileCase
@@ -108,6 +108,20 @@ class Crashes(FileCase):
                 except FileError:
                     found = None
                 self.assertEqual(found, wanted, at)
+
+
+class Counts(FileCase):
+    def test_text(self) -> None:
+        """It is that of JSON, whatever is counted."""
+        largest = (1 << 64) - 1
+        for it in (
+            Counted(0, 0),
+            Counted(1, 2, 3, 4, 5),
+            Counted(largest, largest, largest, largest, largest, (largest, 7)),
+            Counted(1, 2, gap=(3, 4)),
+        ):
+            self.assertEqual(spelled_counted(it), TEXT.encode(vars(it)))
+        self.assertEqual(spelled_counted(None), TEXT.encode(None))
 
 
 class Locked(FileCase):

@@ -86,9 +86,17 @@ READ = form_of(Line)
 
 def line_of(number: int, known: str, counted: Counted | None) -> bytes:
     """A line, of which `known` is spelled already. Its length is what has to fit."""
-    told = TEXT.encode(vars(counted)) if counted else "null"
-    rest = f'"number":{number},"known":{known},"counted":{told}}}\n'.encode()
+    rest = f'"number":{number},"known":{known},"counted":{spelled_counted(counted)}}}\n'.encode()
     return b'{"version":%d,"crc32":"%08x",%b' % (VERSION, checksum(VERSION, rest), rest)
+
+
+def spelled_counted(it: Counted | None) -> str:
+    """Its text, as TEXT has it. It is written for most of the statuses, and is numbers alone."""
+    if it is None:
+        return "null"
+    gap = "null" if it.gap is None else f"[{it.gap[0]},{it.gap[1]}]"
+    rest = f'"count":{it.count},"first":{it.first},"relation":{it.relation},"gap":{gap}'
+    return f'{{"since":{it.since},"upto":{it.upto},{rest}}}'
 
 
 def checksum(version: int, rest: bytes) -> int:
