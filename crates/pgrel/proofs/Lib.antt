@@ -6,3 +6,4 @@ pub mod Limits
 pub mod Lookups
 pub mod Samples
 pub mod CarriedRows
+pub mod Copied

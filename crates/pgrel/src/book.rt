@@ -71,6 +71,22 @@ impl Book {
             .ok_or(RelFault::UnknownRelation(oid))
     }
 
+    /// A book that knows the same. The one error is out of memory.
+    pub fn copy(&self, alloc: Global) -> Result<Book, RelFault>
+        ensures same { IfOk result (λ copy. copy ≡ self.now) }
+        ensures memory { IfErr result (λ fault. fault ≡ RelFault.Memory) }
+    {
+        let mut relations = IndexMap::new(alloc);
+        for place in 0..self.relations.len() {
+            let (oid, def) = self.relations.get_index(place).unwrap();
+            let Ok(copy) = def.copy(alloc) else {
+                return Err(RelFault::Memory);
+            };
+            relations.insert(*oid, copy)?;
+        }
+        Ok(Book { relations })
+    }
+
     /// Forgets all relations.
     pub fn clear(&mut self)
         ensures { self.new ≡ map.empty }
