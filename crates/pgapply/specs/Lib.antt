@@ -10,3 +10,4 @@ pub mod Codes
 pub mod Laws
 pub mod Taken
 pub mod CarriedCopies
+pub mod Parts
