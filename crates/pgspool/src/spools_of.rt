@@ -1,5 +1,5 @@
 //! Spools over the items of each open transaction.
-ghost use Rattle.std.specs.Prelude.{◌≡◌, true, if◌then◌else◌};
+ghost use Rattle.std.specs.Prelude.{◌≡◌, ◌≤◌, length, true, if◌then◌else◌};
 ghost use Rattle.std.specs.FinMap as map;
 ghost use Rattle.pgspool.specs.Labels.{cut, held_of};
 
@@ -10,6 +10,10 @@ use indexmap::IndexMap;
 use pglogical::{ItemRef, spelled_len};
 use std::alloc::Global;
 use std::marker::Model;
+
+// How many items of a longer transaction are a part: of each, a part takes some hundred bytes more
+// than the item does.
+const PART_ITEMS: usize = 65536;
 
 /// Spools whose transactions keep their items as `T` does: `DecodedItems` or `EncodedItems`.
 #[derive(Debug, Drop)]
@@ -79,6 +83,10 @@ impl<T: TransactionItems> Spools for SpoolsOf<T> {
 
     ghost is_loaded = { λ _ _. Unit {0} };
 
+    ghost has_part = { λ s xid _ to. to ≤ length (held_of s.held xid) };
+
+    ghost is_part = { λ s xid _ to. to ≤ length (held_of s.held xid) };
+
     fn is_open(&self, xid: u32) -> bool {
         self.transactions.contains_key(&xid)
     }
@@ -123,6 +131,18 @@ impl<T: TransactionItems> Spools for SpoolsOf<T> {
     fn item(&self, xid: u32, index: usize) -> Option<ItemRef<'_>> {
         let items = self.transactions.get(&xid)?;
         items.item(index)
+    }
+
+    fn is_long(&self, xid: u32) -> bool {
+        self.count(xid) > PART_ITEMS
+    }
+
+    fn load_part(&mut self, xid: u32, from: usize) -> Result<usize, SpoolFault> {
+        Ok(self.count(xid).min(from.saturating_add(PART_ITEMS)))
+    }
+
+    fn part_item(&self, xid: u32, index: usize) -> Option<ItemRef<'_>> {
+        self.item(xid, index)
     }
 
     fn drop_xid(&mut self, xid: u32) {
