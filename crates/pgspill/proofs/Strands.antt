@@ -41,6 +41,27 @@ taken_at [] (suc n) i p there = absurd (none-some p there)
 taken_at (x ∷ ps) (suc n) zero p there = (there, omega arith)
 taken_at (x ∷ ps) (suc n) (suc i) p there = let rest = taken_at ps n i p there in (rest.0, omega arith)
 
+-- a piece is as long as it says
+pub piece_long : (key : ℕ) (file : List ℕ) (owners : List (Option Owner)) (owner : Owner) (p : Piece) → IsPiece key file owners owner p
+    → length (bytes_of file p) ≡ p.kept
+piece_long key file owners owner p is =
+    part_length file (p.block * 65536) p.kept (let k = is.kept in let w = is.within in omega arith)
+
+-- one piece more
+pub one_more : (file : List ℕ) (ps : List Piece) (n : ℕ) (p : Piece) → slice_get ps n ≡ Some p
+    → spilled_bytes file (take (suc n) ps) ≡ spilled_bytes file (take n ps) ++ bytes_of file p
+one_more file [] n p there = absurd (none-some p there)
+one_more file (x ∷ ps) zero p there = append-nil (bytes_of file x) ∙ ap (bytes_of file) (same_Some x p there)
+one_more file (x ∷ ps) (suc n) p there =
+    ap (λ (b : List ℕ). bytes_of file x ++ b) (one_more file ps n p there)
+    ∙ sym (append_assoc (bytes_of file x) (spilled_bytes file (take n ps)) (bytes_of file p))
+
+-- so many pieces and the others
+pub split_pieces : (file : List ℕ) (ps : List Piece) (n : ℕ)
+    → spilled_bytes file ps ≡ spilled_bytes file (take n ps) ++ spilled_bytes file (drop n ps)
+split_pieces file ps n =
+    ap (spilled_bytes file) (sym (take-append-drop n ps)) ∙ flat_map-append (bytes_of file) (take n ps) (drop n ps)
+
 nothing : (file : List ℕ) (ps : List Piece) → 0 < length (spilled_bytes file ps) → 0 < length ps
 nothing file [] some = absurd (omega arith)
 nothing file (p ∷ ps) some = omega arith

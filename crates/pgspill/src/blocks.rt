@@ -2,7 +2,7 @@
 
 ghost use Rattle.std.specs.Prelude.{◌≡◌, ◌≢◌, ◌<◌, ◌≤◌, ◌+◌, ◌++◌, [], length};
 ghost use Rattle.std.specs.Prelude.{◌*◌, ◌^◌, ℕ, Some, IsTrue, IfOk, IfErr, IfSome, OnOk};
-ghost use Rattle.std.specs.List.{slice_get};
+ghost use Rattle.std.specs.List.{slice_get, slice_range};
 ghost use Rattle.sqlite_disk.specs.Digest.{digest as digest_of_bytes};
 ghost use Rattle.pgspill.specs.Faults.{IsWriteFault, IsReadFault, IsOutOfMemory};
 ghost use Rattle.pgspill.specs.Pieces.{IsPiece, KeepsPieces, bytes_of, part};
@@ -196,6 +196,41 @@ impl<D: Disk + Drop> Blocks<D> {
         let at = piece.block * BLOCK_LEN;
         let bytes = self.read_block(at, piece.written, piece.digest)?;
         out.extend_from_slice(&bytes[..piece.kept])?;
+        Ok(())
+    }
+
+    /// Appends the bytes of a piece from one up to another, all of which are tested.
+    ///
+    /// # Errors
+    ///
+    /// `NotRead` where they can't be read, or others are read, and `Memory`.
+    pub(crate) fn read_range(
+        &mut self,
+        owner: Owner,
+        piece: &Piece,
+        out: &mut Vec<u8>,
+        start: usize,
+        end: usize,
+    ) -> Result<(), SpillFault>
+        requires usable { IsTrue (D.is_usable self.old.disk) }
+        requires piece { IsPiece self.old.key (D.seen self.old.disk) self.old.owners.items owner
+            piece.now }
+        requires order { start ≤ end }
+        requires within { start ≤ piece.now.kept }
+        ensures read { IsTrue (D.is_clean self.new.disk) → OnOk result (out.new.items
+            ≡ out.old.items ++ slice_range (bytes_of (D.seen self.old.disk) piece.now) start end) }
+        ensures seen { D.seen self.new.disk ≡ D.seen self.old.disk }
+        ensures owners { self.new.owners.items ≡ self.old.owners.items }
+        ensures key { self.new.key ≡ self.old.key }
+        ensures clean { IsTrue (D.is_clean self.new.disk) → IsTrue (D.is_clean self.old.disk) }
+        ensures fair { D.is_fair self.new.disk self.old.key ≡ D.is_fair self.old.disk self.old.key }
+        ensures usable { IsTrue (D.is_usable self.new.disk) }
+        ensures fault { IfErr result IsReadFault }
+    {
+        let _owner = owner;
+        let at = piece.block * BLOCK_LEN;
+        let bytes = self.read_block(at, piece.written, piece.digest)?;
+        out.extend_from_slice(&bytes[start..end.min(piece.kept)])?;
         Ok(())
     }
 

@@ -1,10 +1,11 @@
 //! A strand: the bytes of one transaction, the last of them in memory.
 
-ghost use Rattle.std.specs.Prelude.{◌≡◌, ◌<◌, ◌≤◌, ◌++◌, ℕ, List, [], Option, length, take};
-ghost use Rattle.std.specs.Prelude.{IsTrue, IfErr, OnOk, OnErr};
+ghost use Rattle.std.specs.Prelude.{◌≡◌, ◌<◌, ◌≤◌, ◌++◌, ℕ, List, [], Option, Some, length, take};
+ghost use Rattle.std.specs.Prelude.{◌-◌, IsTrue, IfErr, OnOk, OnErr, drop, slice_range};
 ghost use Rattle.pgspill.specs.Faults.{IsWriteFault, IsReadFault, IsOutOfMemory};
-ghost use Rattle.pgspill.specs.Pieces.{KeepsPieces};
-ghost use Rattle.pgspill.specs.Strands.{IsStrand, KeepsOthers, strand_bytes};
+ghost use Rattle.std.specs.List.{slice_get};
+ghost use Rattle.pgspill.specs.Pieces.{KeepsPieces, bytes_of};
+ghost use Rattle.pgspill.specs.Strands.{IsStrand, KeepsOthers, spilled_bytes, strand_bytes};
 
 use crate::blocks::{BLOCK_LEN, Blocks};
 use crate::fault::SpillFault;
@@ -181,6 +182,124 @@ impl Strand {
         }
         out.extend_from_slice(&self.tail[self.start..])?;
         Ok(())
+    }
+
+    // Appends the bytes of a piece from one up to another. Its block is read where it has such.
+    fn read_piece<D: Disk + Drop>(
+        &self,
+        blocks: &mut Blocks<D>,
+        out: &mut Vec<u8>,
+        place: usize,
+        start: usize,
+        end: usize,
+    ) -> Result<(), SpillFault>
+        requires usable { IsTrue (D.is_usable blocks.old.disk) }
+        requires strand { IsStrand blocks.old.key (D.seen blocks.old.disk) blocks.old.owners.items
+            self.now }
+        requires place { place < length self.now.pieces.items }
+        ensures read { IsTrue (D.is_clean blocks.new.disk) → (p : Piece) →
+            slice_get self.now.pieces.items place ≡ Some p → OnOk result (out.new.items
+            ≡ out.old.items ++ slice_range (bytes_of (D.seen blocks.old.disk) p) start end) }
+        ensures seen { D.seen blocks.new.disk ≡ D.seen blocks.old.disk }
+        ensures owners { blocks.new.owners.items ≡ blocks.old.owners.items }
+        ensures key { blocks.new.key ≡ blocks.old.key }
+        ensures clean { IsTrue (D.is_clean blocks.new.disk) → IsTrue (D.is_clean blocks.old.disk) }
+        ensures fair { D.is_fair blocks.new.disk blocks.old.key
+            ≡ D.is_fair blocks.old.disk blocks.old.key }
+        ensures usable { IsTrue (D.is_usable blocks.new.disk) }
+        ensures fault { IfErr result IsReadFault }
+    {
+        let piece = &self.pieces[place];
+        if start >= end.min(piece.kept) {
+            return Ok(());
+        }
+        let owner = Owner {
+            xid: self.xid,
+            place,
+        };
+        blocks.read_range(owner, piece, out, start, end)
+    }
+
+    // Appends the bytes in blocks from one up to another, of which only these blocks are read. All
+    // pieces before them are passed, which is short beside a read.
+    fn read_blocks<D: Disk + Drop>(
+        &self,
+        blocks: &mut Blocks<D>,
+        out: &mut Vec<u8>,
+        start: usize,
+        end: usize,
+    ) -> Result<(), SpillFault>
+        requires usable { IsTrue (D.is_usable blocks.old.disk) }
+        requires strand { IsStrand blocks.old.key (D.seen blocks.old.disk) blocks.old.owners.items
+            self.now }
+        ensures read { IsTrue (D.is_clean blocks.new.disk) → OnOk result (out.new.items
+            ≡ out.old.items ++ slice_range
+            (spilled_bytes (D.seen blocks.old.disk) self.now.pieces.items) start end) }
+        ensures seen { D.seen blocks.new.disk ≡ D.seen blocks.old.disk }
+        ensures owners { blocks.new.owners.items ≡ blocks.old.owners.items }
+        ensures key { blocks.new.key ≡ blocks.old.key }
+        ensures clean { IsTrue (D.is_clean blocks.new.disk) → IsTrue (D.is_clean blocks.old.disk) }
+        ensures fair { D.is_fair blocks.new.disk blocks.old.key
+            ≡ D.is_fair blocks.old.disk blocks.old.key }
+        ensures usable { IsTrue (D.is_usable blocks.new.disk) }
+        ensures fault { IfErr result IsReadFault }
+    {
+        let mut place = 0;
+        let mut at = 0;
+        'passed: while place < self.pieces.len() && at < end {
+            self.read_piece(blocks, out, place, start.saturating_sub(at), end - at)?;
+            at += self.pieces[place].kept;
+            place += 1;
+        }
+        Ok(())
+    }
+
+    // Appends the bytes in memory from one up to another, of those in blocks and these.
+    fn read_tail(&self, out: &mut Vec<u8>, start: usize, end: usize) -> Result<(), SpillFault>
+        requires { self.now.start ≤ length self.now.tail.items }
+        ensures read { OnOk result (out.new.items ≡ out.old.items ++ slice_range
+            (drop self.now.start self.now.tail.items) (start - self.now.spilled)
+            (end - self.now.spilled)) }
+        ensures fault { IfErr result IsOutOfMemory }
+    {
+        let tail = &self.tail[self.start..];
+        let to = end.saturating_sub(self.spilled).min(tail.len());
+        let from = start.saturating_sub(self.spilled).min(to);
+        out.extend_from_slice(&tail[from..to])?;
+        Ok(())
+    }
+
+    /// Appends the bytes from one up to another, without that one, to others: those of them in
+    /// blocks are read and tested, and no other block is read. There are fewer where the strand
+    /// ends before.
+    ///
+    /// # Errors
+    ///
+    /// `NotRead` where a block can't be read, or other bytes are read, and `Memory`.
+    pub fn read_range<D: Disk + Drop>(
+        &self,
+        blocks: &mut Blocks<D>,
+        out: &mut Vec<u8>,
+        start: usize,
+        end: usize,
+    ) -> Result<(), SpillFault>
+        requires usable { IsTrue (D.is_usable blocks.old.disk) }
+        requires strand { IsStrand blocks.old.key (D.seen blocks.old.disk) blocks.old.owners.items
+            self.now }
+        ensures read { IsTrue (D.is_clean blocks.new.disk) → OnOk result (out.new.items
+            ≡ out.old.items ++ slice_range (strand_bytes (D.seen blocks.old.disk) self.now)
+            start end) }
+        ensures seen { D.seen blocks.new.disk ≡ D.seen blocks.old.disk }
+        ensures owners { blocks.new.owners.items ≡ blocks.old.owners.items }
+        ensures key { blocks.new.key ≡ blocks.old.key }
+        ensures clean { IsTrue (D.is_clean blocks.new.disk) → IsTrue (D.is_clean blocks.old.disk) }
+        ensures fair { D.is_fair blocks.new.disk blocks.old.key
+            ≡ D.is_fair blocks.old.disk blocks.old.key }
+        ensures usable { IsTrue (D.is_usable blocks.new.disk) }
+        ensures fault { IfErr result IsReadFault }
+    {
+        self.read_blocks(blocks, out, start, end)?;
+        self.read_tail(out, start, end)
     }
 
     /// Keeps so many bytes, all where there are fewer. Nothing is read or written: the blocks of
