@@ -4,3 +4,4 @@ mod Keeping
 mod Spooling
 mod Failing
 mod WorkedRows
+mod Parting

@@ -91,7 +91,7 @@ module _ (xid key key' : ℕ) (file file' : List ℕ) (owners owners' : List (Op
         spilled = is.strand.spilled ∙ ap length (sym spilled);
         start = is.strand.start;
       } in
-      same_items key file owners t is key' file' owners' t strand bytes refl refl refl
+      same_items key file owners t is key' file' owners' t strand bytes refl is.parts refl refl
 
   module _ (old new : Transactions) (bytes most : ℕ) (is : AreSpooled key file owners old bytes most) where
     another : (q : ℕ) (t : FileItems) → nat_eq xid q ≡ false → Some t ≡ lookup (nat_eq q) old

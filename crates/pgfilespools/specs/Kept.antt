@@ -6,6 +6,7 @@ use Rattle.pgspool.specs.Labels.{LabelledItem}
 use Rattle.pgfilespools.specs.declared.file_items.FileItems.{FileItems}
 use Rattle.pgfilespools.specs.Stored.{items_in}
 use Rattle.pgfilespools.specs.AreStored.{AreStored}
+use Rattle.pgfilespools.specs.Parts.{AreParts}
 
 -- what is read back, of a file in which the blocks stand
 abbrev pub items_kept : List ℕ → FileItems → List LabelledItem
@@ -14,6 +15,7 @@ items_kept file t = items_in t.count (strand_bytes file t.strand)
 pub record AreKept (key : ℕ) (file : List ℕ) (owners : List (Option Owner)) (t : FileItems) : Type 0 where
   pub strand : IsStrand key file owners t.strand
   pub stored : AreStored (items_kept file t) (strand_bytes file t.strand) t.firsts.entries t.bytes
+  pub parts : AreParts (items_kept file t) t.parts.items
 
 -- whatever the file has: the same items
 pub record Keeps (old new : FileItems) (key : ℕ) (file : List ℕ) (owners : List (Option Owner)) : Type 0 where

@@ -1,7 +1,7 @@
 //! The items of one open transaction: their bytes in blocks of a file and in memory.
 
 ghost use Rattle.std.specs.Prelude.{◌≡◌, ◌<◌, ◌≤◌, ◌+◌, ◌^◌, ◌++◌, ℕ, List, [], Option, OnOk};
-ghost use Rattle.std.specs.Prelude.{OnErr, IfOk, IfErr, IsTrue, length};
+ghost use Rattle.std.specs.Prelude.{OnErr, IfOk, IfErr, IsTrue, length, slice_range};
 ghost use Rattle.pglogical.specs.Spelling.{IsSpellable};
 ghost use Rattle.pgspill.specs.declared.piece.Owner.{Owner};
 ghost use Rattle.pgspill.specs.Pieces.{KeepsPieces};
@@ -11,6 +11,7 @@ ghost use Rattle.pgfilespools.specs.Faults.{IsOfWriting, IsOfReading};
 ghost use Rattle.pgfilespools.specs.Kept.{AreKept, items_kept, Keeps, Adds, Wherever};
 
 use crate::fault::spool_fault;
+use crate::parts::{Part, cut_parts, note_part, part_from};
 use crate::place::{Place, note_first};
 use crate::stored::{read_items, stored_bytes};
 use indexmap::IndexMap;
@@ -23,11 +24,13 @@ use std::alloc::Global;
 /// The items of one open transaction, each under its subxid.
 ///
 /// Beside their bytes, where each subtransaction's first item is stands in memory: some forty bytes
-/// for each subtransaction. So a cut finds at once what it keeps, and reads nothing.
+/// for each subtransaction. So a cut finds at once what it keeps, and reads nothing. Where each
+/// part begins stands there too, some sixteen bytes for each.
 #[derive(Drop)]
 pub(crate) struct FileItems {
     strand: Strand,
     firsts: IndexMap<u32, Place>,
+    parts: Vec<Place>,
     count: usize,
     bytes: u64,
 }
@@ -43,6 +46,7 @@ impl FileItems {
         FileItems {
             strand: Strand::new(alloc, xid),
             firsts: IndexMap::new(alloc),
+            parts: Vec::new(alloc),
             count: 0,
             bytes: 0,
         }
@@ -67,6 +71,17 @@ impl FileItems {
         self.strand.in_memory()
     }
 
+    // How many items there are, and what they cost.
+    fn end(&self) -> Place
+        ensures place { result.place ≡ self.now.count }
+        ensures bytes { result.bytes ≡ self.now.bytes }
+    {
+        Place {
+            place: self.count,
+            bytes: self.bytes,
+        }
+    }
+
     // Appends the bytes of an item.
     fn append(&mut self, bytes: &[u8]) -> Result<(), SpoolFault>
         requires { self.old.strand.start ≤ length self.old.strand.tail.items }
@@ -78,6 +93,7 @@ impl FileItems {
             IsStrand key file owners self.old.strand → IsStrand key file owners self.new.strand }
         ensures xid { self.new.strand.xid ≡ self.old.strand.xid }
         ensures firsts { self.new.firsts ≡ self.old.firsts }
+        ensures parts { self.new.parts ≡ self.old.parts }
         ensures count { self.new.count ≡ self.old.count }
         ensures bytes { self.new.bytes ≡ self.old.bytes }
         ensures fault { IfErr result IsOfWriting }
@@ -112,11 +128,9 @@ impl FileItems {
             return Err(SpoolFault::Memory);
         };
         self.firsts.reserve(1)?;
+        let first = self.end();
+        note_part(&mut self.parts, first)?;
         self.append(bytes.as_slice())?;
-        let first = Place {
-            place: self.count,
-            bytes: self.bytes,
-        };
         note_first(&mut self.firsts, subxid, first).unwrap();
         self.count = count;
         self.bytes += bytes.len() as u64;
@@ -147,6 +161,7 @@ impl FileItems {
         let freed = self.bytes - bytes;
         self.strand.cut(blocks, bytes as usize);
         self.firsts.truncate(index);
+        cut_parts(&mut self.parts, place);
         self.count = self.count.min(place);
         self.bytes = bytes;
         freed
@@ -209,6 +224,77 @@ impl FileItems {
             Ok(()) => read_items(alloc, bytes.as_slice(), self.count),
             Err(fault) => Err(spool_fault(fault)),
         }
+    }
+
+    // Reads the bytes from one place up to another.
+    fn read_bytes<D: Disk + Drop>(
+        &self,
+        alloc: Global,
+        blocks: &mut Blocks<D>,
+        first: u64,
+        last: u64,
+    ) -> Result<Vec<u8>, SpoolFault>
+        requires usable { IsTrue (D.is_usable blocks.old.disk) }
+        requires strand { IsStrand blocks.old.key (D.seen blocks.old.disk) blocks.old.owners.items
+            self.now.strand }
+        ensures read { IsTrue (D.is_clean blocks.new.disk) → IfOk result (λ bytes. bytes.items
+            ≡ slice_range (strand_bytes (D.seen blocks.old.disk) self.now.strand) first last) }
+        ensures seen { D.seen blocks.new.disk ≡ D.seen blocks.old.disk }
+        ensures owners { blocks.new.owners.items ≡ blocks.old.owners.items }
+        ensures key { blocks.new.key ≡ blocks.old.key }
+        ensures clean { IsTrue (D.is_clean blocks.new.disk) → IsTrue (D.is_clean blocks.old.disk) }
+        ensures fair { D.is_fair blocks.new.disk blocks.old.key
+            ≡ D.is_fair blocks.old.disk blocks.old.key }
+        ensures usable { IsTrue (D.is_usable blocks.new.disk) }
+        ensures fault { IfErr result IsOfReading }
+    {
+        let mut bytes = Vec::new(alloc);
+        match self
+            .strand
+            .read_range(blocks, &mut bytes, first as usize, last as usize)
+        {
+            Ok(()) => Ok(bytes),
+            Err(fault) => Err(spool_fault(fault)),
+        }
+    }
+
+    /// Reads the items of the part that begins behind so many, and returns how many are before its
+    /// end too. Its items alone stand in memory then.
+    ///
+    /// # Errors
+    ///
+    /// `NotRead` where a block can't be read, other bytes are read, or no part begins there, and
+    /// `Memory`.
+    pub(crate) fn load_part<D: Disk + Drop>(
+        &self,
+        alloc: Global,
+        blocks: &mut Blocks<D>,
+        from: usize,
+    ) -> Result<(EncodedItems, usize), SpoolFault>
+        requires usable { IsTrue (D.is_usable blocks.old.disk) }
+        requires kept { AreKept blocks.old.key (D.seen blocks.old.disk) blocks.old.owners.items
+            self.now }
+        ensures read { IsTrue (D.is_clean blocks.new.disk) → IfOk result (λ it. it.0
+            ≡ slice_range (items_kept (D.seen blocks.old.disk) self.now) from it.1) }
+        ensures count { IfOk result (λ it. length it.0 + from ≡ it.1) }
+        ensures within { IfOk result (λ it. it.1 ≤ self.now.count) }
+        ensures some { from < self.now.count → IfOk result (λ it. from < it.1) }
+        ensures seen { D.seen blocks.new.disk ≡ D.seen blocks.old.disk }
+        ensures owners { blocks.new.owners.items ≡ blocks.old.owners.items }
+        ensures key { blocks.new.key ≡ blocks.old.key }
+        ensures clean { IsTrue (D.is_clean blocks.new.disk) → IsTrue (D.is_clean blocks.old.disk) }
+        ensures fair { D.is_fair blocks.new.disk blocks.old.key
+            ≡ D.is_fair blocks.old.disk blocks.old.key }
+        ensures usable { IsTrue (D.is_usable blocks.new.disk) }
+        ensures fault { IfErr result IsOfReading }
+    {
+        let Some(part) = part_from(self.parts.as_slice(), from, self.end()) else {
+            return Err(SpoolFault::NotRead);
+        };
+        let Part { first, last } = part;
+        let bytes = self.read_bytes(alloc, blocks, first.bytes, last.bytes)?;
+        let items = read_items(alloc, bytes.as_slice(), last.place - from)?;
+        Ok((items, last.place))
     }
 
     /// Frees all blocks of the transaction.

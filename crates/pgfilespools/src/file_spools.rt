@@ -3,14 +3,15 @@
 ghost use Rattle.std.specs.Prelude.{◌≡◌, ◌≤◌, ◌<◌, ◌+◌, ◌↔◌, ◌∷◌, ◌++◌, [], IsTrue, OnOk, OnErr};
 ghost use Rattle.std.specs.Prelude.{IfOk, IfErr};
 ghost use Rattle.std.specs.Prelude.{IfSome, IsSome, option_map, slice_get, length, true, false};
-ghost use Rattle.std.specs.Prelude.{if◌then◌else◌};
+ghost use Rattle.std.specs.Prelude.{if◌then◌else◌, ℕ, None, slice_range};
 ghost use Rattle.std.specs.FinMap as map;
 ghost use Rattle.pglogical.specs.Spelling.{IsSpellable};
 ghost use Rattle.pgspool.specs.Labels.{LabelledItem, cut as cut_of, held_of, cost, all_costs};
 ghost use Rattle.pgfilespools.specs.Faults.{IsOfWriting, IsOfReading, IsOfPushing};
-ghost use Rattle.pgfilespools.specs.Spooled.{IsLoaded, IsReady};
+ghost use Rattle.pgfilespools.specs.Spooled.{IsLoaded, IsReady, IsPart, HasPart};
 
 use crate::file_items::FileItems;
+use crate::parts::PART_BYTES;
 use crate::stored::OVERHEAD;
 use indexmap::IndexMap;
 use pglogical::{ItemRef, spelled_len};
@@ -34,6 +35,7 @@ pub struct FileSpools<D: Disk + Drop> {
     in_memory: u64,
     max_in_memory: u64,
     loaded: Option<(u32, EncodedItems)>,
+    part: Option<(u32, (usize, EncodedItems))>,
 }
 
 impl<D: Disk + Drop> Model for FileSpools<D> {
@@ -50,12 +52,16 @@ impl<D: Disk + Drop> Model for FileSpools<D> {
       held = held_in_file (D.seen s.blocks.disk) s.transactions.entries;
       most = s.max_bytes;
       loaded = s.loaded;
+      part = s.part;
       is_honest = D.is_clean s.blocks.disk;
     } };
 
     ghost invariant = { λ s. AreSpooled s.blocks.key (D.seen s.blocks.disk) s.blocks.owners.items
         s.transactions.entries s.bytes s.max_bytes × IsTrue (D.is_usable s.blocks.disk) };
 }
+
+// Where the items of a transaction cost more, they are better read part after part.
+const LONG_BYTES: u64 = 4 * PART_BYTES;
 
 // A number of bytes, of which so many have become others.
 fn changed(total: u64, was: usize, now: usize) -> u64 {
@@ -81,6 +87,7 @@ impl<D: Disk + Drop> FileSpools<D> {
             in_memory: 0,
             max_in_memory,
             loaded: None,
+            part: None,
         }
     }
 
@@ -135,6 +142,7 @@ impl<D: Disk + Drop> FileSpools<D> {
         ensures held { self.new.held ≡ self.old.held }
         ensures limit { self.new.most ≡ self.old.most }
         ensures honest { self.new.is_honest ≡ self.old.is_honest }
+        ensures part { self.new.part ≡ self.old.part }
         ensures fault { IfErr result IsOfWriting }
     {
         let Some(items) = self.transactions.get_mut(&xid) else {
@@ -152,6 +160,7 @@ impl<D: Disk + Drop> FileSpools<D> {
         ensures held { self.new.held ≡ self.old.held }
         ensures limit { self.new.most ≡ self.old.most }
         ensures honest { self.new.is_honest ≡ self.old.is_honest }
+        ensures part { self.new.part ≡ self.old.part }
         ensures fault { IfErr result IsOfWriting }
     {
         if self.in_memory.saturating_add(bytes) <= self.max_in_memory {
@@ -174,6 +183,7 @@ impl<D: Disk + Drop> FileSpools<D> {
         ensures err { OnErr result (self.new.held ≡ self.old.held) }
         ensures limit { self.new.most ≡ self.old.most }
         ensures honest { self.new.is_honest ≡ self.old.is_honest }
+        ensures part { self.new.part ≡ self.old.part }
     {
         let alloc = self.alloc;
         let cost = OVERHEAD + spelled_len(item);
@@ -191,8 +201,10 @@ impl<D: Disk + Drop> FileSpools<D> {
         ensures held { self.new.held ≡ self.old.held }
         ensures limit { self.new.most ≡ self.old.most }
         ensures honest { self.new.is_honest ≡ self.old.is_honest }
+        ensures part { self.new.part ≡ None }
     {
         self.loaded = None;
+        self.part = None;
     }
 
     /// Holds an item after those of its transaction. Where memory is full, the transaction that has
@@ -213,6 +225,7 @@ impl<D: Disk + Drop> FileSpools<D> {
         ensures err { OnErr result (self.new.held ≡ self.old.held) }
         ensures limit { self.new.most ≡ self.old.most }
         ensures honest { self.new.is_honest ≡ self.old.is_honest }
+        ensures part { OnOk result (self.new.part ≡ None) }
     {
         if !self.has_room(item) {
             return Err(SpoolFault::SpoolFull);
@@ -231,6 +244,7 @@ impl<D: Disk + Drop> FileSpools<D> {
             else self.old.held) }
         ensures limit { self.new.most ≡ self.old.most }
         ensures honest { self.new.is_honest ≡ self.old.is_honest }
+        ensures part { self.new.part ≡ None }
     {
         self.unload();
         self.shorten(xid, subxid);
@@ -243,6 +257,7 @@ impl<D: Disk + Drop> FileSpools<D> {
             else self.old.held) }
         ensures limit { self.new.most ≡ self.old.most }
         ensures honest { self.new.is_honest ≡ self.old.is_honest }
+        ensures part { self.new.part ≡ self.old.part }
     {
         if let Some(items) = self.transactions.get_mut(&xid) {
             let was = items.in_memory();
@@ -314,12 +329,87 @@ impl<D: Disk + Drop> FileSpools<D> {
         items.item(index)
     }
 
+    /// Whether the items of a transaction take much memory together.
+    pub fn is_long(&self, xid: u32) -> bool {
+        match self.transactions.get(&xid) {
+            Some(items) => items.bytes() > LONG_BYTES,
+            None => false,
+        }
+    }
+
+    // Reads the items of a transaction's part, and returns the index behind the last one too.
+    fn read_part(&mut self, xid: u32, from: usize) -> Result<(EncodedItems, usize), SpoolFault>
+        requires { from ≤ length (held_of self.old.held xid) }
+        ensures read { IsTrue self.new.is_honest → IfOk result (λ it. it.0
+            ≡ slice_range (held_of self.old.held xid) from it.1) }
+        ensures count { IfOk result (λ it. length it.0 + from ≡ it.1) }
+        ensures within { IfOk result (λ it. it.1 ≤ length (held_of self.old.held xid)) }
+        ensures some { from < length (held_of self.old.held xid) →
+            IfOk result (λ it. from < it.1) }
+        ensures fault { IfErr result IsOfReading }
+        ensures held { self.new.held ≡ self.old.held }
+        ensures limit { self.new.most ≡ self.old.most }
+        ensures honest { IsTrue self.new.is_honest → IsTrue self.old.is_honest }
+    {
+        let alloc = self.alloc;
+        match self.transactions.get(&xid) {
+            Some(items) => items.load_part(alloc, &mut self.blocks, from),
+            None => Ok((EncodedItems::new(alloc), from)),
+        }
+    }
+
+    /// Makes the items of a transaction's part ready to be borrowed by `part_item`, and returns the
+    /// index behind the last of them, where the next part begins; the first begins at index 0.
+    /// Those in the file are read and tested. They alone stand in memory then, until the next call
+    /// that changes what is held or loads.
+    ///
+    /// # Errors
+    ///
+    /// `NotRead` where they can't be read, other bytes are read, or no part begins there, and
+    /// `Memory`. What is held stays.
+    pub fn load_part(&mut self, xid: u32, from: usize) -> Result<usize, SpoolFault>
+        requires { from ≤ length (held_of self.old.held xid) }
+        ensures some { from < length (held_of self.old.held xid) →
+            IfOk result (λ to. from < to) }
+        ensures within { IfOk result (λ to. to ≤ length (held_of self.old.held xid)) }
+        ensures order { IfOk result (λ to. from ≤ to) }
+        ensures ready { IfOk result (λ to. HasPart self.new xid from to) }
+        ensures loaded { IsTrue self.new.is_honest →
+            IfOk result (λ to. IsPart self.new xid from to) }
+        ensures fault { IfErr result IsOfReading }
+        ensures held { self.new.held ≡ self.old.held }
+        ensures limit { self.new.most ≡ self.old.most }
+        ensures honest { IsTrue self.new.is_honest → IsTrue self.old.is_honest }
+    {
+        self.unload();
+        let (items, to) = self.read_part(xid, from)?;
+        self.part = Some((xid, (from, items)));
+        Ok(to)
+    }
+
+    /// Borrows the item of a transaction at an index of the part that was loaded last.
+    pub fn part_item(&self, xid: u32, index: usize) -> Option<ItemRef<'_>>
+        ensures value { (from to : ℕ) → IsPart self.now xid from to → from ≤ index → index < to →
+            result ≡ option_map (λ (l : LabelledItem). l.1)
+            (slice_get (held_of self.now.held xid) index) }
+        ensures there { (from to : ℕ) → HasPart self.now xid from to → from ≤ index → index < to →
+            IsSome result }
+        ensures spellable { IfSome result (λ i. IsSpellable i) }
+    {
+        let (loaded, (from, items)) = self.part.as_ref()?;
+        if *loaded != xid || index < *from {
+            return None;
+        }
+        items.item(index - *from)
+    }
+
     /// Forgets a transaction and its items. Without effect where it isn't open. Nothing is read,
     /// and its blocks are free.
     pub fn drop_xid(&mut self, xid: u32)
         ensures held { self.new.held ≡ map.remove self.old.held xid }
         ensures limit { self.new.most ≡ self.old.most }
         ensures honest { self.new.is_honest ≡ self.old.is_honest }
+        ensures part { self.new.part ≡ None }
     {
         self.unload();
         self.forget(xid);
@@ -330,6 +420,7 @@ impl<D: Disk + Drop> FileSpools<D> {
         ensures held { self.new.held ≡ map.remove self.old.held xid }
         ensures limit { self.new.most ≡ self.old.most }
         ensures honest { self.new.is_honest ≡ self.old.is_honest }
+        ensures part { self.new.part ≡ self.old.part }
     {
         if let Some(items) = self.transactions.swap_remove(&xid) {
             self.bytes -= items.bytes();
@@ -343,6 +434,7 @@ impl<D: Disk + Drop> FileSpools<D> {
         ensures held { self.new.held ≡ map.empty }
         ensures limit { self.new.most ≡ self.old.most }
         ensures honest { self.new.is_honest ≡ self.old.is_honest }
+        ensures part { self.new.part ≡ None }
     {
         self.unload();
         self.transactions = IndexMap::new(self.alloc);

@@ -14,6 +14,8 @@
 //! spools.cut(20, 21);                                  // 21 is rolled back, and nothing is read
 //! spools.load(20)?;                                    // at the commit: its items are read
 //! let item = spools.item(20, 0);                       // the first item
+//! let to = spools.load_part(20, 0)?;                   // or part after part, where it is long
+//! let item = spools.part_item(20, 0);                  // the first item of the first part
 //! spools.drop_xid(20);                                 // its blocks are free for others
 //! ```
 //!
@@ -24,6 +26,7 @@
 mod fault;
 mod file_items;
 mod file_spools;
+mod parts;
 mod place;
 mod spools;
 mod stored;

@@ -1,6 +1,6 @@
 //! Spools over a file are spools as a subscriber knows them.
 
-ghost use Rattle.pgfilespools.specs.Spooled.{IsLoaded, IsReady};
+ghost use Rattle.pgfilespools.specs.Spooled.{IsLoaded, IsReady, IsPart, HasPart};
 
 use crate::file_spools::FileSpools;
 use pglogical::ItemRef;
@@ -19,6 +19,10 @@ impl<D: Disk + Drop> Spools for FileSpools<D> {
     ghost is_ready = { IsReady };
 
     ghost is_loaded = { IsLoaded };
+
+    ghost has_part = { HasPart };
+
+    ghost is_part = { IsPart };
 
     fn is_open(&self, xid: u32) -> bool {
         self.is_open(xid)
@@ -50,6 +54,19 @@ impl<D: Disk + Drop> Spools for FileSpools<D> {
 
     fn item(&self, xid: u32, index: usize) -> Option<ItemRef<'_>> {
         self.item(xid, index)
+    }
+
+    fn is_long(&self, xid: u32) -> bool {
+        self.is_long(xid)
+    }
+
+    #[tactic(auto, using(crate::proofs::Failing::of_reading))]
+    fn load_part(&mut self, xid: u32, from: usize) -> Result<usize, SpoolFault> {
+        self.load_part(xid, from)
+    }
+
+    fn part_item(&self, xid: u32, index: usize) -> Option<ItemRef<'_>> {
+        self.part_item(xid, index)
     }
 
     fn drop_xid(&mut self, xid: u32) {

@@ -5,4 +5,6 @@
 #[cfg(test)]
 mod file_spools;
 #[cfg(test)]
+mod parts;
+#[cfg(test)]
 mod strands;

@@ -1,4 +1,4 @@
-use Rattle.std.proofs.Common.{◌≡◌, ◌+◌, ◌-◌, sym, ap, ◌∙◌, take}
+use Rattle.std.proofs.Common.{◌≡◌, ◌+◌, ◌-◌, sym, ap, subst, ◌∙◌, take}
 use Rattle.std.specs.Prelude.{min}
 use Rattle.pgspill.specs.Strands.{strand_bytes}
 use Rattle.pgspool.specs.declared.first_place.FirstPlace.{FirstPlace}
@@ -6,6 +6,7 @@ use Rattle.pgspool.specs.Labels.{cut as cut_of, costs}
 use Rattle.pgspool.proofs.FirstPlaceLemmas.{TellsCut}
 use Rattle.pgspool.proofs.IndexLemmas.{tells_cut, cut_none}
 use Rattle.pgfilespools.specs.declared.file_items.FileItems.{FileItems}
+use Rattle.pgfilespools.specs.Parts.{AreParts}
 use Rattle.pgfilespools.specs.Kept.{AreKept, items_kept}
 use Rattle.pgfilespools.proofs.Keeping.{fewer_items, freed}
 use Rattle.pgfilespools.proofs.file_items.FileItems.cut.Given.{Over}
@@ -33,6 +34,7 @@ abbrev kept_new : (g : Over) (c : After-min-self g) → FileItems
 kept_new g c = record {
   strand = c.cut.new.self;
   firsts = c.truncate.new.self;
+  parts = c.cut_parts.new.parts;
   count = c.min-self.result;
   bytes = c.first.inside.bytes;
 }
@@ -54,6 +56,8 @@ after g c t =
     (ap (λ d. strand_bytes (seen d) c.cut.new.self) c.cut.ensures.disk ∙ c.cut.ensures.bytes
     ∙ ap (λ n. take n (strand_bytes (seen b.disk) c.args.self.now.strand)) sum)
     c.truncate.ensures.entries
+    (subst (λ n. AreParts (take n (items_kept (seen b.disk) c.args.self.now)) c.cut_parts.new.parts.items) place
+    (c.cut_parts.ensures _ c.requires.parts))
     (c.min-self.ensures ∙ ap (min c.args.self.now.count) place)
     sum
 
