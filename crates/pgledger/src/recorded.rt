@@ -11,7 +11,9 @@ ghost use Rattle.pgledger.specs.Records.{Plans, Records};
 
 use crate::ledger::{Ledger, Supposing};
 use crate::ledger_store::LedgerStore;
-use pgapply::{Commit, DumpRow, DumpSink, LogicalMessage, Misses, ReplicaStore, StoreFault};
+use pgapply::{
+    About, Commit, DumpRow, DumpSink, LogicalMessage, Misses, Parts, ReplicaStore, StoreFault,
+};
 use pglsn::Lsn;
 
 /// A store with a ledger of its commits. It holds what the store holds; and where that is so which
@@ -156,6 +158,68 @@ impl<S: LedgerStore + Drop, L: Ledger + Supposing + Drop> ReplicaStore for Recor
         // the call tells that what is staged doesn't end before the position
         let _reached = self.store.reached();
         self.store.stage_with(commit, &mut self.ledger)
+    }
+
+    /// Whether the store stages the changes of a commit part after part, and nobody is told of
+    /// them.
+    fn takes_parts(&self) -> bool {
+        self.store.takes_parts() && !self.ledger.wants()
+    }
+
+    /// Stages a commit of parts in the store. The ledger isn't told of it: it wants no images.
+    ///
+    /// # Errors
+    ///
+    /// Those of the store. `Refused` too where the ledger is stuck or wants images.
+    fn stage_parts<P: Parts>(
+        &mut self,
+        end: Lsn,
+        about: Option<About>,
+        parts: &mut P,
+    ) -> Result<(), StoreFault>
+        requires { S.reach self.old.store < end }
+        ensures forgot { OnOk result (L.heard self.new.ledger ≡ Some []) }
+        ensures free { OnOk result (L.is_stuck self.new.ledger ≡ false) }
+        ensures staged { S.serves self.new.store → P.is_honest parts.new → OnOk result
+            (Folds ⟦<Recorded<S, L> as ReplicaStore>⟧.stages self.old self.new
+            (P.left parts.old)) }
+        ensures end { OnOk result (S.reach self.new.store ≡ end) }
+        ensures undone { S.serves self.new.store → OnErr result
+            (Stays ⟦<Recorded<S, L> as ReplicaStore>⟧.stages self.old self.new) }
+        ensures reach { OnErr result (S.reach self.new.store ≡ S.reach self.old.store) }
+        ensures fault { S.serves self.new.store → P.is_honest parts.new → IfErr result
+            (RefusesWork ⟦<Recorded<S, L> as ReplicaStore>⟧.stages self.old
+            (P.left parts.old)) }
+        ensures why { S.is_honest self.new.store → S.serves self.old.store →
+            P.is_honest parts.new → IfErr result
+            (RefusesWork ⟦<Recorded<S, L> as ReplicaStore>⟧.stages self.old
+            (P.left parts.old)) }
+        ensures unchanged { S.serves self.new.store →
+            Stays ⟦<Recorded<S, L> as ReplicaStore>⟧.holds self.old self.new }
+        ensures position { S.place self.new.store ≡ S.place self.old.store }
+        ensures counts { S.serves self.new.store → P.is_honest parts.new → OnOk result
+            (Counts ⟦<Recorded<S, L> as ReplicaStore>⟧.stages self.old
+            (P.left parts.old) end (S.stages_missed self.old.store)
+            (S.stages_missed self.new.store)) }
+        ensures uncounted { OnErr result
+            (S.stages_missed self.new.store ≡ S.stages_missed self.old.store) }
+        ensures missed { S.missed self.new.store ≡ S.missed self.old.store }
+        ensures leads { P.leads parts.old parts.new }
+        ensures served { S.serves self.new.store → S.serves self.old.store }
+        ensures open { S.is_honest self.new.store → OnOk result (S.serves self.new.store) }
+        ensures honest { S.is_honest self.new.store → S.is_honest self.old.store }
+        ensures crash { S.is_honest self.new.store → (other : Recorded S L) →
+            ⟦<Recorded<S, L> as ReplicaStore>⟧.reopens self.new other →
+            ⟦<Recorded<S, L> as ReplicaStore>⟧.reopens self.old other }
+    {
+        if self.ledger.is_stuck() || self.ledger.wants() {
+            return Err(StoreFault::Refused);
+        }
+        // the call tells that what is staged doesn't end before the position
+        let _reached = self.store.reached();
+        self.store.stage_parts(end, about, parts)?;
+        self.ledger.forget(); // What it heard is of that commit.
+        Ok(())
     }
 
     /// Hands a message on to the ledger.
