@@ -46,7 +46,7 @@ pub(crate) struct Unstaged {
 
 impl Unstaged {
     /// All that was staged is lost, since the store can't go back to it.
-    fn lost(error: StoreError) -> Unstaged
+    pub(crate) fn lost(error: StoreError) -> Unstaged
         ensures own { IsOwnFault result.refusal }
         ensures lost { result.is_lost ≡ true }
     {
@@ -84,7 +84,7 @@ fn go_back<S: Alter>(rows: &mut Rows<S>) -> Result<(), StoreError>
 
 /// Drops what came since the newest mark, and the mark. Where that fails, all that was staged is
 /// lost.
-fn undo_one<S: Alter>(rows: &mut Rows<S>, refusal: Refusal) -> Unstaged
+pub(crate) fn undo_one<S: Alter>(rows: &mut Rows<S>, refusal: Refusal) -> Unstaged
     requires { IfServing S.Store rows.old ((state S.Store rows.old).marks ≢ []) }
     ensures back { HasCleanDisk (state S.Store rows.new) → result.is_lost ≡ false →
         Returns (state S.Store rows.old) (state S.Store rows.new) }
@@ -199,7 +199,7 @@ pub(crate) fn settle_rows<S: Alter>(
 }
 
 /// Goes back to what is committed before the first commit of a group.
-fn prepare<S: Alter + Drop>(source: &mut Source<S>, alloc: Global, is_first: bool)
+pub(crate) fn prepare<S: Alter + Drop>(source: &mut Source<S>, alloc: Global, is_first: bool)
     requires { IsSource S.Store source.old }
     ensures source { IsSource S.Store source.new }
     ensures prepares { Prepares S.Store (rows_in source.old) (rows_in source.new) is_first }

@@ -1,0 +1,19 @@
+use Rattle.pgrows.specs.Rows.{tables_of}
+use Rattle.pgstore.specs.Acts.{Goes, IfOpened}
+use Rattle.pgstore.specs.Known.{AreStored}
+use Rattle.pgstore.specs.Parted.{TakesParts}
+use Rattle.pgstore.proofs.parting.take_parts.Given as goal
+
+-- the parts so far were taken, and what is known is stored
+abbrev pub invariant-parts : goal.invariant-parts
+invariant-parts g l =
+    g.P.Parts.leads l.initial.parts l.parts
+    × Goes g.S.Store l.initial.rows l.rows
+    × IfOpened g.S.Store l.initial.rows l.rows
+    (TakesParts g.S.Store l.initial.rows l.rows (g.P.Parts.is_honest l.parts) (g.P.Parts.left l.initial.parts) (g.P.Parts.left l.parts)
+    l.end l.initial.misses l.misses)
+    × IfOpened g.S.Store l.initial.rows l.rows (AreStored l.known (tables_of g.S.Store l.rows))
+
+-- fewer parts are left
+abbrev pub decreases-parts : goal.decreases-parts
+decreases-parts g l = g.P.Parts.most_left l.parts
