@@ -36,7 +36,7 @@ relation_adds_none : (def : RelationDef) (rest : Result (List Change) ℕ) → w
 relation_adds_none def (Ok changes) = refl
 relation_adds_none def (Err missing) = refl
 
-known_behind : (relations : RelationCache) (def : RelationDef)
+pub known_behind : (relations : RelationCache) (def : RelationDef)
     → found_behind (Relation def) (known_to relations) ≡ known_to (map.insert relations def.oid def)
 known_behind relations def =
     fun_ext (λ oid. sym (get-insert nat_cmp_total relations def.oid def oid

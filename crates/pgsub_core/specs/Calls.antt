@@ -1,4 +1,5 @@
 pub mod Drafts
+pub mod Parting
 pub mod Loading
 pub mod Committing
 pub mod Events

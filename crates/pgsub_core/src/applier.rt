@@ -35,6 +35,7 @@ ghost use Rattle.pgsub_core.specs.Calls.Events.{StaysBeside};
 ghost use Rattle.pgsub_core.specs.Machine.Faults.{IsOfFeedingOver, IsOfSpools, IsReadFault};
 
 use crate::committing::{Ending, about_of, commit, later};
+use crate::committing_parts::commit_in_parts;
 use crate::fault::Fault;
 use crate::loading::Loads;
 use bytes::BytesMut;
@@ -156,6 +157,51 @@ fn load<P: Loads<C>, C: ReplicaStore>(spools: &mut P, xid: u32, store: &mut C) -
 {
     spools.load_beside(xid, store)?;
     Ok(())
+}
+
+// Stages the changes of a transaction that commits: part after part where together they take much
+// memory. Else its items are loaded before anything of the commit is looked at, so that nothing is
+// staged where that fails.
+#[tactic(auto, using(crate::proofs::Spooling::stops_commit, crate::proofs::Spooling::feeding_of_spools, crate::proofs::Spooling::feeding_over))]
+fn stage_commit<P: Loads<C>, C: ReplicaStore>(
+    alloc: Global,
+    book: &mut Book,
+    spools: &mut P,
+    store: &mut C,
+    confirmed: Lsn,
+    ending: Ending,
+) -> Result<Lsn, Fault>
+    ensures taken { C.serves store.new → IfOk result
+        (λ confirmed'. Commits C.stages C.reach ending.end
+        (items_of (held_of (P.held spools.old) ending.xid)) store.old confirmed book.old store.new
+        confirmed' book.new) }
+    ensures refused { C.serves store.new → IfErr result (RefusesCommit C.stages C.reach ending.end
+        (items_of (held_of (P.held spools.old) ending.xid)) store.old confirmed book.old
+        store.new) }
+    ensures why { C.is_honest store.new → C.serves store.old →
+        IfErr result (RefusesCommit C.stages C.reach ending.end
+        (items_of (held_of (P.held spools.old) ending.xid)) store.old confirmed book.old
+        store.old) }
+    ensures counts { C.serves store.new → OnOk result
+        (CountsCommit C.stages C.reach C.stages_missed ending.end
+        (items_of (held_of (P.held spools.old) ending.xid)) store.old confirmed book.old
+        store.new) }
+    ensures uncounted { OnErr result (C.stages_missed store.new ≡ C.stages_missed store.old) }
+    ensures missed { C.missed store.new ≡ C.missed store.old }
+    ensures own { IfErr result (IsOfFeedingOver P.may_fail) }
+    ensures position { OnErr result (C.reach store.new ≡ C.reach store.old) }
+    ensures served { C.serves store.new → C.serves store.old }
+    ensures open { C.is_honest store.new → C.serves store.old → OnOk result (C.serves store.new) }
+    ensures honest { C.is_honest store.new → C.is_honest store.old }
+    ensures rests { Rests C.holds C.place C.reopens C.serves C.is_honest store.old store.new }
+    ensures held { P.held spools.new ≡ P.held spools.old }
+    ensures limit { P.most spools.new ≡ P.most spools.old }
+{
+    if spools.is_long(ending.xid) && store.takes_parts() {
+        return commit_in_parts(alloc, book, spools, store, confirmed, ending);
+    }
+    load(spools, ending.xid, store)?;
+    commit(alloc, book, spools, store, confirmed, ending)
 }
 
 // The confirmed position after a keepalive: its end counts only outside pairs and blocks.
@@ -332,9 +378,7 @@ impl<P: Loads<C> + Drop, C: ReplicaStore + Drop> Applier<P, C> {
         }
     }
 
-    // Commits a transaction, whose items are buffered no longer. They are loaded before anything of
-    // the commit is looked at, so that nothing is staged where that fails.
-    #[tactic(auto, using(crate::proofs::Spooling::stops_commit, crate::proofs::Spooling::feeding_of_spools, crate::proofs::Spooling::feeding_over))]
+    // Commits a transaction, whose items are buffered no longer.
     fn commit(&mut self, ending: Ending) -> Result<(), Fault>
         ensures taken { C.serves self.new.store →
             OnOk result (Commits C.stages C.reach ending.end
@@ -367,11 +411,10 @@ impl<P: Loads<C> + Drop, C: ReplicaStore + Drop> Applier<P, C> {
             self.new.store }
     {
         let xid = ending.xid;
-        load(&mut self.spools, xid, &mut self.store)?;
-        let confirmed = commit(
+        let confirmed = stage_commit(
             self.alloc,
             &mut self.book,
-            &self.spools,
+            &mut self.spools,
             &mut self.store,
             self.confirmed,
             ending,

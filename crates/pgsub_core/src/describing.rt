@@ -122,7 +122,7 @@ fn describe_truncate(
 
 // Adds one item of a commit: a Relation goes into the cache, a change gets its definition from
 // there.
-fn describe_item<'a>(
+pub(crate) fn describe_item<'a>(
     alloc: Global,
     book: &mut Book,
     draft: &mut Draft<'a>,
@@ -192,7 +192,7 @@ pub(crate) fn describe<'a, P: Spools>(
 }
 
 // Caches an item of a repeat if it is a Relation.
-fn cache_item(alloc: Global, book: &mut Book, item: &ItemRef<'_>) -> Result<(), Fault>
+pub(crate) fn cache_item(alloc: Global, book: &mut Book, item: &ItemRef<'_>) -> Result<(), Fault>
     requires { IsSpellable item.now }
     ensures cached { OnOk result (book.new ≡ cached item.now book.old) }
     ensures memory { IfErr result (λ fault. fault ≡ Fault.Memory) }

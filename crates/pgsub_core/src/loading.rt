@@ -1,6 +1,6 @@
 //! Loads the items of a transaction that commits, beside the store that its changes are for.
 
-ghost use Rattle.std.specs.Prelude.{◌≡◌, OnOk, IfErr};
+ghost use Rattle.std.specs.Prelude.{◌≡◌, OnOk, IfErr, IsTrue};
 ghost use Rattle.pgspool.specs.Failures.{IsFailure};
 ghost use Rattle.pgsub_core.specs.Calls.Loading.{LoadsBeside};
 
@@ -21,6 +21,14 @@ pub trait Loads<C: ReplicaStore>: Spools {
         ensures limit { Self.most self.new ≡ Self.most self.old }
         ensures beside { LoadsBeside C.serves C.is_honest C.holds C.stages C.place C.reach C.missed
             C.stages_missed C.reopens store.old store.new };
+
+    /// Tells the store whether all that was read back until now is what was written. Nothing that
+    /// the store holds or has staged changes.
+    fn note_beside(&self, store: &mut C)
+        ensures noted { C.serves store.new → IsTrue (Self.is_honest self.now) }
+        ensures noted_honest { C.is_honest store.new → IsTrue (Self.is_honest self.now) }
+        ensures beside { LoadsBeside C.serves C.is_honest C.holds C.stages C.place C.reach C.missed
+            C.stages_missed C.reopens store.old store.new };
 }
 
 /// What is kept in memory is read back as it was written, whatever store is beside it.
@@ -28,4 +36,6 @@ impl<T: TransactionItems, C: ReplicaStore> Loads<C> for SpoolsOf<T> {
     fn load_beside(&mut self, xid: u32, _store: &mut C) -> Result<(), SpoolFault> {
         self.load(xid)
     }
+
+    fn note_beside(&self, _store: &mut C) {}
 }
