@@ -1,7 +1,7 @@
 -- What spools are that are in memory or over a file.
-use Rattle.std.specs.Prelude.{ℕ, Bool, true}
-use Rattle.pgspool.specs.Labels.{HeldMap}
-use Rattle.pgfilespools.specs.Spooled.{IsLoaded, IsReady}
+use Rattle.std.specs.Prelude.{◌≤◌, ℕ, Bool, length, true}
+use Rattle.pgspool.specs.Labels.{HeldMap, held_of}
+use Rattle.pgfilespools.specs.Spooled.{IsLoaded, IsReady, IsPart, HasPart}
 use Rattle.pgspooled.specs.declared.live_spools.LiveSpools.{LiveSpools}
 use Rattle.pgspooled.specs.declared.live_spools.LiveSpools.TheVariants.{Memory, File}
 
@@ -26,3 +26,12 @@ module _ {D : Type 0} where
   abbrev pub IsLoadedLive : LiveSpools D → ℕ → Type 0
   IsLoadedLive (Memory s) xid = Unit {0}
   IsLoadedLive (File s) xid = IsLoaded s xid
+
+  -- of what is in memory each item always is there
+  abbrev pub HasPartLive : LiveSpools D → ℕ → ℕ → ℕ → Type 0
+  HasPartLive (Memory s) xid from to = to ≤ length (held_of s.held xid)
+  HasPartLive (File s) xid from to = HasPart s xid from to
+
+  abbrev pub IsPartLive : LiveSpools D → ℕ → ℕ → ℕ → Type 0
+  IsPartLive (Memory s) xid from to = to ≤ length (held_of s.held xid)
+  IsPartLive (File s) xid from to = IsPart s xid from to

@@ -3,7 +3,7 @@
 ghost use Rattle.std.specs.Prelude.{◌≡◌, IsTrue, true};
 ghost use Rattle.std.specs.FinMap as map;
 ghost use Rattle.pgspooled.specs.Live.{held_live, most_live, is_honest_live};
-ghost use Rattle.pgspooled.specs.Live.{IsReadyLive, IsLoadedLive};
+ghost use Rattle.pgspooled.specs.Live.{IsReadyLive, IsLoadedLive, HasPartLive, IsPartLive};
 
 use pgfilespools::FileSpools;
 use pglogical::ItemRef;
@@ -57,6 +57,10 @@ impl<D: Disk + Drop> Spools for LiveSpools<D> {
 
     ghost is_loaded = { IsLoadedLive };
 
+    ghost has_part = { HasPartLive };
+
+    ghost is_part = { IsPartLive };
+
     fn is_open(&self, xid: u32) -> bool {
         match self {
             LiveSpools::Memory(spools) => spools.is_open(xid),
@@ -106,6 +110,27 @@ impl<D: Disk + Drop> Spools for LiveSpools<D> {
         match self {
             LiveSpools::Memory(spools) => spools.item(xid, index),
             LiveSpools::File(spools) => spools.item(xid, index),
+        }
+    }
+
+    fn is_long(&self, xid: u32) -> bool {
+        match self {
+            LiveSpools::Memory(spools) => spools.is_long(xid),
+            LiveSpools::File(spools) => spools.is_long(xid),
+        }
+    }
+
+    fn load_part(&mut self, xid: u32, from: usize) -> Result<usize, SpoolFault> {
+        match self {
+            LiveSpools::Memory(spools) => spools.load_part(xid, from),
+            LiveSpools::File(spools) => spools.load_part(xid, from),
+        }
+    }
+
+    fn part_item(&self, xid: u32, index: usize) -> Option<ItemRef<'_>> {
+        match self {
+            LiveSpools::Memory(spools) => spools.part_item(xid, index),
+            LiveSpools::File(spools) => spools.part_item(xid, index),
         }
     }
 

@@ -38,4 +38,24 @@ impl<C: ReplicaStore + Drop, D: Disk + Drop> Loads<Spooled<C>> for LiveSpools<D>
         store.note(self);
         loaded
     }
+
+    /// The store notes whether all that was written has been given back; where it has, the store
+    /// stays as it is.
+    fn note_beside(&self, store: &mut Spooled<C>)
+        ensures noted_too { store.new.honesty.is_true
+            ≡ store.old.honesty.is_true && is_honest_live self.now }
+        ensures stays { IsTrue (is_honest_live self.now) → store.new ≡ store.old }
+        ensures noted { ⟦<Spooled<C> as ReplicaStore>⟧.serves store.new →
+            IsTrue (is_honest_live self.now) }
+        ensures noted_honest { ⟦<Spooled<C> as ReplicaStore>⟧.is_honest store.new →
+            IsTrue (is_honest_live self.now) }
+        ensures beside { LoadsBeside ⟦<Spooled<C> as ReplicaStore>⟧.serves
+            ⟦<Spooled<C> as ReplicaStore>⟧.is_honest ⟦<Spooled<C> as ReplicaStore>⟧.holds
+            ⟦<Spooled<C> as ReplicaStore>⟧.stages ⟦<Spooled<C> as ReplicaStore>⟧.place
+            ⟦<Spooled<C> as ReplicaStore>⟧.reach ⟦<Spooled<C> as ReplicaStore>⟧.missed
+            ⟦<Spooled<C> as ReplicaStore>⟧.stages_missed
+            ⟦<Spooled<C> as ReplicaStore>⟧.reopens store.old store.new }
+    {
+        Spooled::note(store, self);
+    }
 }

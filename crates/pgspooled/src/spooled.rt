@@ -3,7 +3,9 @@
 ghost use Rattle.std.specs.Prelude.{◌≡◌, ◌&&◌, IsTrue, true};
 
 use crate::honesty::Honesty;
-use pgapply::{Commit, DumpRow, DumpSink, LogicalMessage, Misses, ReplicaStore, StoreFault};
+use pgapply::{
+    About, Commit, DumpRow, DumpSink, LogicalMessage, Misses, Parts, ReplicaStore, StoreFault,
+};
 use pglsn::Lsn;
 use pgspool::Spools;
 
@@ -79,6 +81,19 @@ impl<C: ReplicaStore + Drop> ReplicaStore for Spooled<C> {
 
     fn stage(&mut self, commit: &Commit<'_, '_>) -> Result<(), StoreFault> {
         self.store.stage(commit)
+    }
+
+    fn takes_parts(&self) -> bool {
+        self.store.takes_parts()
+    }
+
+    fn stage_parts<P: Parts>(
+        &mut self,
+        end: Lsn,
+        about: Option<About>,
+        parts: &mut P,
+    ) -> Result<(), StoreFault> {
+        self.store.stage_parts(end, about, parts)
     }
 
     fn settle(&mut self) -> Result<(), StoreFault> {

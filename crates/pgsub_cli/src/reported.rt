@@ -7,7 +7,9 @@ ghost use Rattle.pgapply.specs.Taken.{LeavesStaged, Settles, Stays};
 ghost use Rattle.pgsub_cli.specs.declared.reported.Settling.{Settling as Settled};
 
 use crate::files::Unheard;
-use pgapply::{Commit, DumpRow, DumpSink, LogicalMessage, Misses, ReplicaStore, StoreFault};
+use pgapply::{
+    About, Commit, DumpRow, DumpSink, LogicalMessage, Misses, Parts, ReplicaStore, StoreFault,
+};
 use pglsn::Lsn;
 
 /// Commits that were stored together.
@@ -134,6 +136,22 @@ impl<C: ReplicaStore + Drop, L: Listener + Drop> ReplicaStore for Reported<C, L>
         let changes = commit.work.entries().len() as u64;
         self.commits = self.commits.saturating_add(1);
         self.changes = self.changes.saturating_add(changes);
+        Ok(())
+    }
+
+    fn takes_parts(&self) -> bool {
+        self.store.takes_parts()
+    }
+
+    fn stage_parts<P: Parts>(
+        &mut self,
+        end: Lsn,
+        about: Option<About>,
+        parts: &mut P,
+    ) -> Result<(), StoreFault> {
+        self.store.stage_parts(end, about, parts)?;
+        self.commits = self.commits.saturating_add(1);
+        self.changes = self.changes.saturating_add(parts.given());
         Ok(())
     }
 
