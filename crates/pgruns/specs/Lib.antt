@@ -4,3 +4,4 @@ pub mod NewFile
 pub mod Recorded
 pub mod Fed
 pub mod Left
+pub mod Spooling

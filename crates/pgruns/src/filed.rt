@@ -85,12 +85,13 @@ fn dump_store<S: Alter + Drop, W: Output + Drop, E: Output>(
 /// the log goes into the file of the database. Returns the exit status, what is left of the files,
 /// the feed, if one was opened, and why the load wasn't taken.
 ///
-/// `F` stands for what the files hold when they are opened. The
-/// store that is followed over holds that, or what a load into it has led to (`AfterLoad`), what it
-/// holds at the end is as `run_follow` says, and
-/// whatever content the files have once it is closed, or after a crash, is one that it could leave.
-/// So from run to run nothing is lost that was confirmed (`pgrecovery`, law
-/// `crashes_lose_nothing_confirmed`). Files that hold no store are left as they were found.
+/// `F` stands for what the files hold when they are opened. The store that is followed over holds
+/// that, or what a load into it has led to (`AfterLoad`), what it holds at the end is as
+/// `run_follow` says, and whatever content the files have once it is closed, or after a crash, is
+/// one that it could leave: all of it where the files have given back what was written, those of
+/// the store and that of open transactions (`IsKept`). So from run to run nothing is lost that was
+/// confirmed (`pgrecovery`, law `crashes_lose_nothing_confirmed`). Files that hold no store are
+/// left as they were found.
 ///
 /// The status is that of `run_follow`, and where that is 0, of a log that can't be copied: 13, or
 /// 14 where memory ran out. Where no store is opened it is that of `tell_unfollowed`, for the fault

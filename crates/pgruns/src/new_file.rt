@@ -11,7 +11,7 @@ ghost use Rattle.pgruns.specs.NewFile.{new_page};
 
 use pgapply::StoreFault;
 use std::alloc::AllocError;
-use std::fs::{File, OpenOptions};
+use std::fs::{File, Metadata, OpenOptions};
 use std::io::{Read, Write};
 use std::os::unix::fs::{MetadataExt, OpenOptionsExt};
 use std::path::Path;
@@ -83,15 +83,20 @@ fn has_foreign_byte(rt: &HostRuntime, path: &str) -> Result<bool, AllocError> {
     })
 }
 
-/// Whether two names are of one file, neither of them a link to the other.
-fn are_one_file(rt: &HostRuntime, name: &str, other: &str) -> bool {
-    match (
-        fs::symlink_metadata(rt, name),
-        fs::symlink_metadata(rt, other),
-    ) {
+/// Whether both are there, and of one file.
+pub(crate) fn are_of_one(one: io::Result<Metadata>, two: io::Result<Metadata>) -> bool {
+    match (one, two) {
         (Ok(one), Ok(two)) => one.ino() == two.ino() && one.dev() == two.dev(),
         _ => false,
     }
+}
+
+/// Whether two names are of one file, neither of them a link to the other.
+fn are_one_file(rt: &HostRuntime, name: &str, other: &str) -> bool {
+    are_of_one(
+        fs::symlink_metadata(rt, name),
+        fs::symlink_metadata(rt, other),
+    )
 }
 
 /// Writes such a database to a new file, and to the disk.

@@ -2,13 +2,15 @@
 //!
 //! PostgreSQL documentation, Streaming of Large Transactions for Logical Decoding.
 
-ghost use Rattle.std.specs.Prelude.{◌≡◌, None, Err};
+ghost use Rattle.std.specs.Prelude.{◌≡◌, None, Err, IfOk, IfErr};
 ghost use Rattle.pgsub_cli.specs.declared.fault.RunFault.TheVariants.{Stream};
 ghost use Rattle.pgsub_cli.specs.Caused.{TellsBecause};
 ghost use Rattle.pgsub_cli.specs.FollowStatus.{status_of_fault};
 ghost use Rattle.pgsub_core.specs.declared.fault.Fault.TheVariants.{Spool};
+ghost use Rattle.pgruns.specs.Spooling.{IsOfMaking};
 
 use crate::file_folder::{make_file, open_file};
+use crate::new_file::are_of_one;
 use pgfeed::FeedFault;
 use pgspool::SpoolFault;
 use pgsub_cli::SpoolFile;
@@ -19,11 +21,12 @@ use sqlite::{FileFrom, Unknown};
 use std::alloc::Global;
 use std::fs::File;
 use std::io::{ErrorKind, Read};
-use std::os::unix::fs::MetadataExt;
 use std::{fs, io};
 
 /// A fault of the system.
-fn spool_fault(error: io::Error) -> SpoolFault {
+fn spool_fault(error: io::Error) -> SpoolFault
+    ensures { IsOfMaking result }
+{
     match error.kind() {
         ErrorKind::OutOfMemory => SpoolFault::Memory,
         ErrorKind::StorageFull => SpoolFault::NoRoom,
@@ -31,42 +34,55 @@ fn spool_fault(error: io::Error) -> SpoolFault {
     }
 }
 
-/// How the file of a database begins.
+/// How files begin that somebody keeps: a database, its log in either order of bytes, its journal,
+/// and a feed.
 ///
-/// SQLite documentation, Database File Format, The Database Header.
-const DATABASE: &[u8] = b"SQLite format 3\0";
+/// SQLite documentation, Database File Format, The Database Header, The Rollback Journal, WAL File
+/// Format.
+static KEPT: [&[u8]; 5] = [
+    b"SQLite format 3\0",
+    b"\x37\x7f\x06\x82",
+    b"\x37\x7f\x06\x83",
+    b"\xd9\xd5\x05\xf9\x20\xa1\x63\xd7",
+    b"{\"feed\":",
+];
 
-/// Whether a file begins as that of a database.
-fn is_database(rt: &HostRuntime, path: &str) -> io::Result<bool> {
+/// Whether a file begins with these bytes, at most sixteen.
+fn begins_with(rt: &HostRuntime, path: &str, start: &[u8]) -> io::Result<bool> {
     let mut head = [0; 16];
+    let Some(head) = head.get_mut(..start.len()) else {
+        return Ok(false);
+    };
     let mut file = File::open(rt, path)?;
-    Ok(file.read_exact(&mut head).is_ok() && head.as_slice() == DATABASE)
+    Ok(file.read_exact(head).is_ok() && *head == *start)
 }
 
-/// Whether two paths lead to one file.
-fn lead_to_one_file(rt: &HostRuntime, path: &str, other: &str) -> bool {
-    match (fs::metadata(rt, path), fs::metadata(rt, other)) {
-        (Ok(one), Ok(two)) => one.ino() == two.ino() && one.dev() == two.dev(),
-        _ => false,
+/// Whether a file begins as one that somebody keeps.
+fn is_kept(rt: &HostRuntime, path: &str) -> io::Result<bool> {
+    for start in KEPT {
+        if begins_with(rt, path, start)? {
+            return Ok(true);
+        }
     }
+    Ok(false)
 }
 
 /// Whether a path leads to one of these files.
 fn is_one_of(rt: &HostRuntime, path: &str, others: &[&str]) -> bool {
     for other in others {
-        if lead_to_one_file(rt, path, other) {
+        if are_of_one(fs::metadata(rt, path), fs::metadata(rt, other)) {
             return true;
         }
     }
     false
 }
 
-/// Whether what is at a path may be lost: nothing, or a plain file that is no database and none of
-/// these.
+/// Whether what is at a path may be lost: nothing, or a plain file that nobody keeps and that is
+/// none of these.
 fn may_be_lost(rt: &HostRuntime, path: &str, others: &[&str]) -> io::Result<bool> {
     match fs::symlink_metadata(rt, path) {
         Ok(about) if !about.is_file() => Ok(false),
-        Ok(_) => Ok(!is_one_of(rt, path, others) && !is_database(rt, path)?),
+        Ok(_) => Ok(!is_one_of(rt, path, others) && !is_kept(rt, path)?),
         Err(error) if error.kind() == ErrorKind::NotFound => Ok(true),
         Err(error) => Err(error),
     }
@@ -96,8 +112,8 @@ fn is_made_anew(rt: &HostRuntime, path: &str, others: &[&str]) -> io::Result<boo
 }
 
 /// Makes the file at a path anew, for its owner alone, and opens it. What it held is lost, unless
-/// it is a database, no plain file, or one of the `others` that the run needs. So many bytes of the
-/// changes of open transactions stay in memory.
+/// it is a database, a log, a journal, a feed, no plain file, or one of the `others` that the run
+/// needs. So many bytes of the changes of open transactions stay in memory.
 ///
 /// # Errors
 ///
@@ -107,7 +123,10 @@ pub fn make_spool(
     path: &str,
     others: &[&str],
     max_in_memory: u64,
-) -> Result<SpoolFile<FileFrom<Unknown>>, SpoolFault> {
+) -> Result<SpoolFile<FileFrom<Unknown>>, SpoolFault>
+    ensures memory { IfOk result (λ bytes. bytes ≡ max_in_memory) }
+    ensures fault { IfErr result IsOfMaking }
+{
     if !is_made_anew(rt, path, others).map_err(spool_fault)? {
         return Err(SpoolFault::NotWritten);
     }
