@@ -2150,10 +2150,17 @@ BUGS = (
         ("test_spooling",),
     ),
     Bug(
-        "more goes on in a file than a commit may have",
+        "more goes on in a file than a commit with a feed may have",
         "pgsub_connect/commands/follow.py",
-        "    in_all = most if options.is_bounded else default_spooled()\n",
-        "    in_all = most if options.is_bounded else None\n",
+        "default_spooled(bool(options.feed))\n",
+        "None\n",
+        ("test_spooling",),
+    ),
+    Bug(
+        "a file has no more than memory where there is no feed",
+        "pgsub_connect/commands/follow.py",
+        "default_spooled(bool(options.feed))\n",
+        "default_spooled(True)\n",
         ("test_spooling",),
     ),
     Bug(

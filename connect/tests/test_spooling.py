@@ -209,12 +209,20 @@ class Words(Case):
         spool = child.spill()
         self.assertEqual(spool, child.spool)
         self.assertEqual(spool and spool.path, str(self.folder / "transactions"))
-        sizes = {"--spool-memory": str(64 << 20), "--max-buffered": str(1 << 31), **frame}
+        sizes = {"--spool-memory": str(64 << 20), **frame}
         self.assertEqual(self.told_of(child), {"--spool": spool and spool.path, **sizes})
-        self.assertEqual((child.most(), child.spill()), (1 << 31, None))
+        self.assertEqual((child.most(), child.spill()), (None, None))
 
-    def test_no_more_than_a_commit_may_have(self) -> None:
-        """Each transaction comes back whole: so a file takes no more than memory does."""
+    def test_any_size_without_a_feed(self) -> None:
+        """A commit comes back part after part."""
+        for known in (1 << 30, 1 << 31, None):
+            with mock.patch.object(memory_limit, "memory", lambda: known):  # noqa: B023
+                self.assertEqual(self.made("--spool-memory", "1MB").most(), None)
+                self.assertIsNotNone(self.made().spill())
+
+    def test_no_more_than_a_commit_with_a_feed_may_have(self) -> None:
+        """Each transaction comes back whole there: so a file takes no more than memory does."""
+        feed = ("--feed", str(self.folder) + ".feed")
         for known, most, goes_on in (
             (1 << 30, 1 << 29, False),
             (1 << 31, 1 << 30, False),
@@ -222,8 +230,8 @@ class Words(Case):
             (None, None, True),
         ):
             with mock.patch.object(memory_limit, "memory", lambda: known):  # noqa: B023
-                self.assertEqual(self.made().spill() is not None, goes_on)
-                self.assertEqual(self.made("--spool-memory", "1MB").most(), most)
+                self.assertEqual(self.made(*feed).spill() is not None, goes_on)
+                self.assertEqual(self.made(*feed, "--spool-memory", "1MB").most(), most)
 
     def test_a_limit_above_memory(self) -> None:
         """What an operator allows in all is no more memory than there is."""

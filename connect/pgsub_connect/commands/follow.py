@@ -307,7 +307,7 @@ def begin_buffering(options: Options, child: Filter) -> None:
     spool.remove()
     stays = options.spool_memory or default_in_memory()
     in_file = [SPOOL_WORD, spool.path, SPOOL_MEMORY, str(stays)]
-    in_all = most if options.is_bounded else default_spooled()
+    in_all = most if options.is_bounded else default_spooled(bool(options.feed))
     in_file += [MAX_BUFFERED, str(in_all)] if in_all else []
     if options.spool_memory == words.NO:
         return child.buffer([MAX_BUFFERED, str(most)])

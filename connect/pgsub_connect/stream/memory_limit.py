@@ -48,10 +48,10 @@ def default_buffered() -> int:
     return MOST if known is None else max(LEAST, min(MOST, known // 2))
 
 
-def default_spooled() -> int | None:
+def default_spooled(has_feed: bool) -> int | None:
     """What open transactions may have where they go on in a file and that isn't said: half of the
-    memory, since each comes back whole at its commit. None where the memory isn't known."""
-    known = memory()
+    memory where there is a feed, since for it each comes back whole at its commit. None for any."""
+    known = memory() if has_feed else None
     return None if known is None else max(LEAST, known // 2)
 
 
