@@ -181,7 +181,7 @@ unfoldable value : List ℕ → ℕ
 value [] = 0
 value (b ∷ bs) = value bs * 256 + b
 
-number_append : (bs cs : List Bool) → number (bs ++ cs) ≡ number cs * 2 ^ length bs + number bs
+pub number_append : (bs cs : List Bool) → number (bs ++ cs) ≡ number cs * 2 ^ length bs + number bs
 unfolding number
 number_append [] cs = omega arith
 number_append (b ∷ bs) cs =

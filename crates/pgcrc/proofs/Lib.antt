@@ -3,3 +3,4 @@ pub mod Dividing
 pub mod Bytes
 pub mod Bursts
 pub mod Remainder
+pub mod Joining

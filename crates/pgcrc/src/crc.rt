@@ -1,10 +1,12 @@
 //! The CRC of bytes that come in pieces.
 
-ghost use Rattle.std.specs.Prelude.{◌≡◌, ◌++◌, [], ℕ, List, length};
+ghost use Rattle.std.specs.Prelude.{◌≡◌, ◌++◌, [], ℕ, List, length, replicate};
 ghost use Rattle.pgcrc.specs.Crc.{after_bits, bits, message_bits, crc32};
 ghost use Rattle.pgcrc.specs.Covering.{Covers};
 
 use crate::tables::TABLES;
+
+const ZEROS: [u8; 8] = [0; 8];
 
 /// The CRC-32 of the bytes so far, in whatever pieces they came.
 #[derive(Clone, Copy, Debug)]
@@ -52,6 +54,17 @@ fn after_each(register: u32, bytes: &[u8]) -> u32
     after
 }
 
+// The register after so many bytes 0.
+fn after_zeros(register: u32, count: usize) -> u32
+    ensures { result ≡ after_bits register (message_bits (replicate count 0)) }
+{
+    let mut after = register;
+    for _ in 0..count / 8 {
+        after = after_eight(after, &ZEROS);
+    }
+    after_each(after, &ZEROS[..count % 8])
+}
+
 impl Crc32 {
     /// Of no bytes.
     pub fn new() -> Crc32
@@ -78,6 +91,16 @@ impl Crc32 {
         ensures { (message : List ℕ) → Covers self.now message → result ≡ crc32 message }
     {
         !self.register
+    }
+
+    /// The CRC-32 of the bytes so far and then of `count` more, whose own CRC-32 is `behind`. So a
+    /// long piece need not be read again once what stands before it is known. The time that it
+    /// takes is in proportion to `count`.
+    pub fn followed_by(&self, behind: u32, count: usize) -> u32
+        ensures { (before more : List ℕ) → Covers self.now before → behind ≡ crc32 more
+            → length more ≡ count → result ≡ crc32 (before ++ more) }
+    {
+        after_zeros(self.value(), count) ^ behind
     }
 }
 

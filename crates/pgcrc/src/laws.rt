@@ -1,7 +1,8 @@
 //! What holds of CRCs whatever program computes them. The functions do nothing: their contracts are
 //! the laws.
 
-ghost use Rattle.std.specs.Prelude.{◌≡◌, ◌≢◌, ◌≤◌, ◌-◌, ◌++◌, ℕ, List, Bool, length};
+ghost use Rattle.std.specs.Prelude.{◌≡◌, ◌≢◌, ◌≤◌, ◌-◌, ◌++◌, ℕ, List, Bool, length, replicate};
+ghost use Rattle.std.specs.Prelude.{bit_xor};
 ghost use Rattle.pgcrc.specs.declared.crc.Crc32.{Crc32};
 ghost use Rattle.pgcrc.specs.Crc.{AreBytes, crc32, message_bits, ones};
 ghost use Rattle.pgcrc.specs.Covering.{Covers};
@@ -19,6 +20,15 @@ pub fn crc_is_the_remainder()
 pub fn cuts_change_nothing()
     ensures { (crc other : Crc32) (message : List ℕ) → Covers crc message → Covers other message
         → crc ≡ other }
+{}
+
+/// The CRC of a message in two pieces comes from those of the pieces, and how long the second is.
+/// So a piece need not be read again when another comes to stand before it, as a head that is
+/// known last.
+pub fn pieces_are_joined()
+    ensures { (front behind : List ℕ) → let zeros = replicate (length behind) 0 in
+        crc32 (front ++ behind)
+        ≡ bit_xor (bit_xor (crc32 (front ++ zeros)) (crc32 zeros)) (crc32 behind) }
 {}
 
 /// Two messages of one length that differ within at most 32 bits have different CRCs.

@@ -13,4 +13,7 @@ mod laws;
 mod tables;
 
 pub use crc::Crc32;
-pub use laws::{bursts_are_found, changes_are_found, crc_is_the_remainder, cuts_change_nothing};
+pub use laws::{
+    bursts_are_found, changes_are_found, crc_is_the_remainder, cuts_change_nothing,
+    pieces_are_joined,
+};

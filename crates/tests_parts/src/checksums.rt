@@ -31,3 +31,37 @@ fn each_message_has_its_crc_in_any_pieces(rt: HostRuntime) {
         }
     }
 }
+
+/// Whether each piece's CRC leads to the message's, wherever it is cut.
+fn has_crc_of_pieces(message: &[u8], value: u32) -> bool {
+    let mut joined = true;
+    for cut in 0..=message.len() {
+        let mut front = Crc32::new();
+        front.update(&message[..cut]);
+        let mut behind = Crc32::new();
+        behind.update(&message[cut..]);
+        joined = joined && front.followed_by(behind.value(), message.len() - cut) == value;
+    }
+    joined
+}
+
+#[test]
+fn each_message_has_the_crc_of_its_pieces(rt: HostRuntime) {
+    for (message, value) in &MESSAGES {
+        assert!(&rt; has_crc_of_pieces(message, *value));
+    }
+}
+
+/// Bytes of a long piece, whose zeros are many.
+const BYTES: [u8; 1003] = [0xa7; 1003];
+
+#[test]
+fn a_long_piece_follows(rt: HostRuntime) {
+    let mut behind = Crc32::new();
+    behind.update(&BYTES);
+    let mut crc = Crc32::new();
+    crc.update(b"123456789");
+    let joined = crc.followed_by(behind.value(), BYTES.len());
+    crc.update(&BYTES);
+    assert_eq!(&rt; joined, crc.value());
+}
