@@ -32,13 +32,13 @@ first_line : (defs : List RelationDef) (def : RelationDef) (entry : ℕ × Op) (
 first_line defs def entry image entries more images others first second is =
     rw (first, second) (next_line defs entry more image others def is)
 
-text_next : (told : List Told) (at n : ℕ) (line : Line) (more : List Line)
+pub text_next : (told : List Told) (at n : ℕ) (line : Line) (more : List Line)
     → body_text told at n (line ∷ more)
     ≡ line_text told at n line ++ body_text (line_told told at line) (at + length (line_text told at n line)) (suc n) more
 unfolding body_text
 text_next told at n line more = refl
 
-told_next : (told : List Told) (at n : ℕ) (line : Line) (more : List Line)
+pub told_next : (told : List Told) (at n : ℕ) (line : Line) (more : List Line)
     → told_after told at n (line ∷ more)
     ≡ told_after (line_told told at line) (at + length (line_text told at n line)) (suc n) more
 unfolding told_after
@@ -134,11 +134,11 @@ none_left : (defs : List RelationDef) (entries : List (ℕ × Op)) (images : Lis
 none_left defs entries images (inl none) = rw (empty entries none) refl
 none_left defs entries images (inr none) = rw (empty images none) (no_lines (change_values defs entries))
 
-no_text : (told : List Told) (at n : ℕ) → body_text told at n [] ≡ []
+pub no_text : (told : List Told) (at n : ℕ) → body_text told at n [] ≡ []
 unfolding body_text
 no_text told at n = refl
 
-none_told : (told : List Told) (at n : ℕ) → told_after told at n [] ≡ told
+pub none_told : (told : List Told) (at n : ℕ) → told_after told at n [] ≡ told
 unfolding told_after
 none_told told at n = refl
 
@@ -172,7 +172,7 @@ lines_length [] images = omega arith
 lines_length (change ∷ changes) [] = omega arith
 lines_length (change ∷ changes) (image ∷ images) = let more = lines_length changes images in omega arith
 
-counted : (count : ℕ) (defs : List RelationDef) (entries : List (ℕ × Op)) (changes : List Change) (images : List Image)
+pub counted : (count : ℕ) (defs : List RelationDef) (entries : List (ℕ × Op)) (changes : List Change) (images : List Image)
     → change_values defs entries ≡ changes → AllByRecursion (IsNumbered defs) entries
     → count ≡ min (length entries) (length images) → count ≡ length (lines changes images)
 counted count defs entries changes images made numbered many =

@@ -3,10 +3,10 @@ use Rattle.std.proofs.Common.{◌≡◌, ◌<◌, ◌≤◌, ◌+◌, ℕ, List,
 use Rattle.std.proofs.Common.{inr}
 use Rattle.std.proofs.Common.{length-append, length-drop, append-nil, ap, ◌^◌, refl, sym, ◌∙◌}
 use Rattle.std.proofs.Common.{subst, arith}
-use Rattle.sqlite_disk.specs.Disk.{Holds, Only, Torn}
+use Rattle.sqlite_disk.specs.Disk.{Cut, Follows, Holds, Only, Torn}
 use Rattle.pgledger.specs.Entries.{Entry, last_end}
 use Rattle.pgfeed.specs.Segments.{IsCut, IsFinished, IsFound, IsHead, KeepsEntries, Lasts, Reopens}
-use Rattle.pgfeed.specs.Segments.{WritesBehind}
+use Rattle.pgfeed.specs.Segments.{ChangesBehind, StaysBefore}
 use Rattle.std.specs.List.{AllByRecursion}
 use Rattle.pgfeed.specs.declared.told.Told.{Told}
 use Rattle.pgfeed.specs.Next.{Remembers}
@@ -16,31 +16,45 @@ use Rattle.pgfeed.specs.Texts.{entry_told, segment_head}
 use Rattle.pgfeed.specs.Fits.{FitsEntry}
 use Rattle.pgfeed.specs.Cutting.Kept.{kept_behind, kept_front, kept_more}
 use Rattle.pgfeed.specs.Cutting.Walking.{drop_front, no_entry}
-use Rattle.pgfeed.specs.Cutting.Files.{holds_behind}
+use Rattle.pgfeed.specs.Cutting.Files.{cut_stays, holds_behind, torn_stays}
 use Rattle.pgfeed.specs.Cutting.Opened.{lasts_behind, reopens_before}
 
-torn_same : (at : ℕ) (file : List ℕ) → Torn at 0 file file
-torn_same at file = record { no_shorter = omega arith; no_longer = omega arith; below = λ i lt less. refl; above = λ i lt more. refl }
+stays_same : (size : ℕ) (file : List ℕ) → StaysBefore size file file
+stays_same size file = record { no_shorter = omega arith; below = λ i lt less. refl }
+
+-- what is written at or behind an offset
+pub writes_behind : (size at n : ℕ) (old new : List ℕ) (before after : List ℕ → Type 0) → size ≤ at → Torn at n old new
+    → Follows (Torn at n) before after → ChangesBehind size old new before after
+writes_behind size at n old new before after up torn crash =
+    (torn_stays size at n old new up torn, λ c left. let came = crash c left in (came.0, came.1, torn_stays size at n came.0 c up came.2))
+
+-- the length is changed to so many bytes
+pub cuts_behind : (size : ℕ) (old new : List ℕ) (before after : List ℕ → Type 0) → Cut size old new
+    → Follows (Cut size) before after → ChangesBehind size old new before after
+cuts_behind size old new before after cut crash = (
+  cut_stays size size old new (omega arith) cut,
+  λ c left. let came = crash c left in (came.0, came.1, cut_stays size size came.0 c (omega arith) came.2),
+)
 
 -- nothing is written, and a crash leaves nothing else
 pub writes_none : (size : ℕ) (file : List ℕ) (before after : List ℕ → Type 0) → ((c : List ℕ) → after c → before c)
-    → WritesBehind size file file before after
-writes_none size file before after less = (0, torn_same size file, λ c left. (c, less c left, torn_same size c))
+    → ChangesBehind size file file before after
+writes_none size file before after less = (stays_same size file, λ c left. (c, less c left, stays_same size c))
 
 pub writes_same : (size : ℕ) (old new : List ℕ) (before after : List ℕ → Type 0) → new ≡ old → ((c : List ℕ) → after c → before c)
-    → WritesBehind size old new before after
+    → ChangesBehind size old new before after
 writes_same size old new before after same less =
-    subst (λ file. WritesBehind size old file before after) (sym same) (writes_none size old before after less)
+    subst (λ file. ChangesBehind size old file before after) (sym same) (writes_none size old before after less)
 
 pub lasts_more : (base new_base size more place : ℕ) (old new : List ℕ) (before after : List ℕ → Type 0) → new_base ≡ base → size ≤ more
-    → WritesBehind size old new before after → Lasts base size before place
+    → ChangesBehind size old new before after → Lasts base size before place
     → Lasts new_base more after place
 lasts_more base new_base size more place old new before after same up writes lasting =
     subst (λ b. Lasts b more after place) (sym same) (lasts_behind base size more place old new before after up writes lasting)
 
 pub reopens_less : (base new_base size more place other_base other_last other_size : ℕ) (told : List Told) (old new file : List ℕ)
     (before after outcomes : List ℕ → Type 0) → new_base ≡ base → size ≤ more
-    → WritesBehind size old new before after → Reopens new_base more after place other_base other_last other_size told file outcomes
+    → ChangesBehind size old new before after → Reopens new_base more after place other_base other_last other_size told file outcomes
     → Reopens base size before place other_base other_last other_size told file outcomes
 reopens_less base new_base size more place other_base other_last other_size told old new file before after outcomes same up writes opened =
     reopens_before base size more place other_base other_last other_size told old new file before after outcomes up writes
@@ -95,24 +109,24 @@ pub appended : (base new_base last new_last size more : ℕ) (told new_told : Li
     (before after : List ℕ → Type 0) (e : Entry) → new_base ≡ base → new_last ≡ e.end
     → more ≡ size + length (entry_text last e (entry_body told (size + 256) e))
     → Remembers (entry_told told (size + 256) e) new_told → last < e.end → FitsEntry last e (entry_body told (size + 256) e)
-    → Holds new size (entry_text last e (entry_body told (size + 256) e)) → WritesBehind size old new before after
+    → Holds new size (entry_text last e (entry_body told (size + 256) e)) → ChangesBehind size old new before after
     → (es : List Entry) → KeepsEntries base last size told old es → KeepsEntries new_base new_last more new_told new (es ++ e ∷ [])
 appended base new_base last new_last size more told new_told old new before after e same ends long tells above fits holds writes es k =
     subst (λ b. KeepsEntries b new_last more new_told new (es ++ e ∷ [])) (sym same)
     (subst (λ l. KeepsEntries base l more new_told new (es ++ e ∷ [])) (sym ends)
     (kept_told base e.end more (entry_told told (size + 256) e) new_told new (es ++ e ∷ []) tells
-    (kept_more base last size more writes.0 told old new es e k writes.1 holds above fits long)))
+    (kept_more base last size more told old new es e k writes.0 holds above fits long)))
 
 pub untold : (base new_base last new_last size more : ℕ) (told new_told : List Told) (old new : List ℕ)
     (before after : List ℕ → Type 0) → new_base ≡ base → more ≡ size
-    → new_last ≡ last → new_told ≡ told → WritesBehind size old new before after
+    → new_last ≡ last → new_told ≡ told → ChangesBehind size old new before after
     → (es : List Entry) → KeepsEntries base last size told old es → KeepsEntries new_base new_last more new_told new es
 untold base new_base last new_last size more told new_told old new before after same stays ends tells writes es k =
     subst (λ b. KeepsEntries b new_last more new_told new es) (sym same)
     (subst (λ l. KeepsEntries base l more new_told new es) (sym ends)
     (subst (λ n. KeepsEntries base last n new_told new es) (sym stays)
     (subst (λ t. KeepsEntries base last size t new es) (sym tells)
-    (kept_behind base last size writes.0 told old new es k writes.1))))
+    (kept_behind base last size told old new es k writes.0))))
 
 -- a head alone
 no_bodies : Bodies
@@ -190,7 +204,7 @@ pub finished : (base last size : ℕ) (told : List Told) (old new line : List �
     → Torn size (length line) old new → (0 < length line → Holds new size line) → Only new after → IsFinished base last es new after
 finished base last size told old new line after es k long is torn written only =
     let some : 0 < length line = omega (arith, some_line last, ap length is) in
-    let kept = kept_behind base last size (length line) told old new es k torn in
+    let kept = kept_behind base last size told old new es k (torn_stays size size (length line) old new (omega arith) torn) in
     let text : List ℕ = entries_text kept.bodies base es in
     let front = kept_front base last size told new es kept in
     let rest : kept.rest ≡ drop size new =

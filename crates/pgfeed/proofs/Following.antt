@@ -10,9 +10,9 @@ use Rattle.pgfeed.specs.declared.feed.Feed.{Feed}
 use Rattle.pgfeed.specs.declared.segment.Segment.{Segment}
 use Rattle.pgfeed.specs.Reading.{AreEntries}
 use Rattle.pgfeed.specs.Segments.{IsEnded, KeepsEntries, Lasts, LastsAs}
-use Rattle.pgfeed.specs.Segments.{HasWhatLasts, WritesBehind}
+use Rattle.pgfeed.specs.Segments.{HasWhatLasts, ChangesBehind}
 use Rattle.pgfeed.specs.declared.told.Told.{Told}
-use Rattle.pgfeed.specs.Next.{FitsNext, IsNext, Remembers, next_body, next_text, next_told}
+use Rattle.pgfeed.specs.Next.{Adds, IsNext, Remembers, next_body, next_told}
 use Rattle.pgfeed.specs.declared.entries.Piece.{Piece}
 use Rattle.pgfeed.specs.Cutting.Walking.{entry_length}
 use Rattle.pgfeed.specs.Feeds.{AreEnded, BeginAt, Follow, Goes, HasHeadAt}
@@ -37,10 +37,10 @@ module _ {D : Type 0} (seen : D → List ℕ) (may_leave : D → List ℕ → Ty
     pub base_is : new.base ≡ old.base
     pub size_up : old.size ≤ new.size
     pub last_up : old.last ≤ new.last
-    pub behind : WritesBehind old.size (seen old.disk) (seen new.disk) (may_leave old.disk) (may_leave new.disk)
+    pub behind : ChangesBehind old.size (seen old.disk) (seen new.disk) (may_leave old.disk) (may_leave new.disk)
 
   pub writes_line : (old new : Segment D) → new.base ≡ old.base → new.last ≡ old.last → new.size ≡ old.size
-      → WritesBehind old.size (seen old.disk) (seen new.disk) (may_leave old.disk) (may_leave new.disk) → Writes old new
+      → ChangesBehind old.size (seen old.disk) (seen new.disk) (may_leave old.disk) (may_leave new.disk) → Writes old new
   writes_line old new base last size behind = record { base_is = base; size_up = omega arith; last_up = omega arith; behind = behind }
 
   pub writes_nothing : (old new : Segment D) → new.base ≡ old.base → new.last ≡ old.last → new.size ≡ old.size
@@ -55,15 +55,6 @@ module _ {D : Type 0} (seen : D → List ℕ) (may_leave : D → List ℕ → Ty
       writes_nothing old new (ap (λ (s : Segment D). s.base) is) (ap (λ (s : Segment D). s.last) is) (ap (λ (s : Segment D). s.size) is)
       (ap (λ (s : Segment D). seen s.disk) is)
       (λ c left. subst (λ (s : Segment D). may_leave s.disk c) is left)
-
--- a commit is written, and what it tells is remembered
-pub record Adds {D : Type 0} (seen : D → List ℕ) (old new : Segment D) (e : Entry) : Type 0 where
-  pub above : old.last < e.end
-  pub fits : FitsNext old e
-  pub holds : Holds (seen new.disk) old.size (next_text old e)
-  pub size_is : new.size ≡ old.size + length (next_text old e)
-  pub last_is : new.last ≡ e.end
-  pub told_is : Remembers (next_told old e) new.told.items
 
 pub remembers_as : (told other now : List Told) → told ≡ other → Remembers told now → Remembers other now
 remembers_as told other now same (inl all) = inl (subst (λ (ts : List Told). length ts ≤ 1024) same all.0, all.1 ∙ same)
@@ -554,3 +545,54 @@ module _ {F D : Type 0} (seen : D → List ℕ) (may_leave : D → List ℕ → 
             (may_leave new.segment.disk) base size
             (synced_lasts _ _ _ _ _ (may_leave new.segment.disk) k.now k.kept only)),
       )
+
+  -- it accepts nothing more
+  pub stays_stopped : (old new : Feed F D) → new.folder ≡ old.folder → new.ended.items ≡ old.ended.items → new.begins ≡ old.begins
+      → new.segment ≡ record old.segment { is_stuck = true } → StaysOn old new
+  stays_stopped old new folder ended begins is = record {
+    on = record {
+      folder_is = folder;
+      ended_is = ended;
+      begins_is = begins;
+      writes = writes_stopped seen may_leave old.segment new.segment is;
+      clean = subst (λ (s : Segment D). IsTrue (is_clean s.disk) → IsTrue (is_clean old.segment.disk)) (sym is) (λ clean. clean);
+    };
+    size_is = ap (λ (s : Segment D). s.size) is;
+    last_is = ap (λ (s : Segment D). s.last) is;
+    told_is = ap (λ (s : Segment D). s.told.items) is;
+    less = λ text may. subst (λ (s : Segment D). may_leave s.disk text) is may;
+    stuck = λ free. absurd (true_false (sym (ap (λ (s : Segment D). s.is_stuck) is) ∙ free));
+  }
+
+  -- what is behind the commits is changed
+  pub on_behind : (old new : Feed F D) → new.folder ≡ old.folder → new.ended.items ≡ old.ended.items → new.begins ≡ old.begins
+      → new.segment.base ≡ old.segment.base → new.segment.last ≡ old.segment.last → new.segment.size ≡ old.segment.size
+      → ChangesBehind old.segment.size (seen old.segment.disk) (seen new.segment.disk) (may_leave old.segment.disk)
+      (may_leave new.segment.disk)
+      → (IsTrue (is_clean new.segment.disk) → IsTrue (is_clean old.segment.disk)) → WritesOn old new
+  on_behind old new folder ended begins base last size behind clean = record {
+    folder_is = folder;
+    ended_is = ended;
+    begins_is = begins;
+    writes = writes_line seen may_leave old.segment new.segment base last size behind;
+    clean = clean;
+  }
+
+  -- a draft is kept as a commit
+  pub on_draft : (old new : Feed F D) (e : Entry) → new.folder ≡ old.folder → new.ended.items ≡ old.ended.items → new.begins ≡ old.begins
+      → new.segment.base ≡ old.segment.base → Adds seen old.segment new.segment e
+      → ChangesBehind old.segment.size (seen old.segment.disk) (seen new.segment.disk) (may_leave old.segment.disk)
+      (may_leave new.segment.disk)
+      → (IsTrue (is_clean new.segment.disk) → IsTrue (is_clean old.segment.disk)) → WritesOn old new
+  on_draft old new e folder ended begins base adds behind clean = record {
+    folder_is = folder;
+    ended_is = ended;
+    begins_is = begins;
+    writes = record {
+      base_is = base;
+      size_up = omega (arith, adds.size_is);
+      last_up = omega (arith, adds.last_is, adds.above);
+      behind = behind;
+    };
+    clean = clean;
+  }

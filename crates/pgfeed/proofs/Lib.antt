@@ -3,6 +3,8 @@ pub mod Calls
 pub mod Following
 pub mod Folders
 pub mod Bodies
+mod Parted
+mod DraftFiles
 pub mod Plain
 pub mod Lasting
 pub mod Beside

@@ -5,6 +5,7 @@ pub mod Fits
 pub mod Reading
 pub mod Segments
 pub mod Next
+pub mod Drafts
 pub mod Whole
 pub mod Naming
 pub mod Folders

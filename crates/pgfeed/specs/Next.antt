@@ -1,5 +1,6 @@
 -- What comes behind the entries of a segment.
 use Rattle.std.specs.Prelude.{◌≡◌, ◌<◌, ◌≤◌, ◌+◌, ◌++◌, ◌⊎◌, ℕ, List, [], length, string_bytes}
+use Rattle.sqlite_disk.specs.Disk.{Holds}
 use Rattle.pgledger.specs.Entries.{Entry}
 use Rattle.pgfeed.specs.declared.entries.Piece.{Piece}
 use Rattle.pgfeed.specs.declared.segment.Segment.{Segment}
@@ -31,3 +32,12 @@ pub record IsNext {D : Type 0} (s : Segment D) (e : Entry) (piece : Piece) : Typ
   pub fits : FitsNext s e
   pub text : string_bytes piece.text ≡ next_text s e
   pub told : s.told.items ++ piece.told.items ≡ next_told s e
+
+-- a commit is written, and what it tells is remembered
+pub record Adds {D : Type 0} (seen : D → List ℕ) (old new : Segment D) (e : Entry) : Type 0 where
+  pub above : old.last < e.end
+  pub fits : FitsNext old e
+  pub holds : Holds (seen new.disk) old.size (next_text old e)
+  pub size_is : new.size ≡ old.size + length (next_text old e)
+  pub last_is : new.last ≡ e.end
+  pub told_is : Remembers (next_told old e) new.told.items

@@ -1,8 +1,9 @@
 -- A segment of a feed in a file: what the file has, what a crash leaves of it, and opening what was
 -- left.
-use Rattle.std.specs.Prelude.{◌≡◌, ◌<◌, ◌≤◌, ◌+◌, ◌^◌, ℕ, List, [], ◌++◌, length, take, drop}
+use Rattle.std.specs.Prelude.{◌≡◌, ◌<◌, ◌≤◌, ◌+◌, ◌^◌, ℕ, List, [], ◌++◌, length, take, drop, min}
+use Rattle.std.specs.Prelude.{slice_index}
 use Rattle.std.specs.List.{AllByRecursion}
-use Rattle.sqlite_disk.specs.Disk.{Follows, Only, Torn}
+use Rattle.sqlite_disk.specs.Disk.{Follows, Only}
 use Rattle.pgledger.specs.Entries.{Entry, last_end}
 use Rattle.pgfeed.specs.declared.mark.Mark.{Mark}
 use Rattle.pgfeed.specs.declared.told.Told.{Told}
@@ -96,9 +97,14 @@ pub record IsCut (text : List ℕ) (size : ℕ) (file : List ℕ) (outcomes : Li
   pub file_is : file ≡ take size text
   pub synced : Only file outcomes
 
--- a call may have written behind so many bytes
-abbrev pub WritesBehind : ℕ → List ℕ → List ℕ → (List ℕ → Type 0) → (List ℕ → Type 0) → Type 0
-WritesBehind size old new before after = (n : ℕ) × Torn size n old new × Follows (Torn size n) before after
+-- what a file has of its first bytes, so many of them, stays
+pub record StaysBefore (size : ℕ) (old new : List ℕ) : Type 0 where
+  pub no_shorter : min (length old) size ≤ length new
+  pub below : (i : ℕ) → i < length old → i < size → slice_index new i ≡ slice_index old i
+
+-- a call may have changed what is behind so many bytes
+abbrev pub ChangesBehind : ℕ → List ℕ → List ℕ → (List ℕ → Type 0) → (List ℕ → Type 0) → Type 0
+ChangesBehind size old new before after = StaysBefore size old new × Follows (StaysBefore size) before after
 
 -- Another segment was opened at the LSN on a text that has what lasts up to it. It has told no
 -- definition.

@@ -71,6 +71,48 @@ fn tell(
     Ok(at)
 }
 
+/// Adds the lines of changes to a piece that begins at this offset of the segment, with the
+/// definitions that aren't told there. So many changes of the commit have their lines already.
+pub(crate) fn add_lines(
+    alloc: Global,
+    told: &[Told],
+    start: usize,
+    count: usize,
+    definitions: &[RelationDef],
+    entries: &ChangeRefs<'_, '_>,
+    images: &[Image<'_>],
+    begun: Piece,
+) -> Result<Piece, AllocError>
+    requires { AllByRecursion (IsNumbered definitions.now) entries.now }
+    ensures text { IfOk result (λ piece. string_bytes piece.text ≡ string_bytes begun.text
+        ++ body_text (told.now ++ begun.told.items) (start + length (string_bytes begun.text))
+        count (lines (change_values definitions.now entries.now) images.now)) }
+    ensures told { IfOk result (λ piece. told.now ++ piece.told.items
+        ≡ told_after (told.now ++ begun.told.items) (start + length (string_bytes begun.text))
+        count (lines (change_values definitions.now entries.now) images.now)) }
+{
+    let mut piece = begun;
+    let mut last = None;
+    for (i, (entry, image)) in entries.reborrow().zip(images).enumerate() {
+        let def = defined(definitions, &entry);
+        let Some(at) = start.checked_add(piece.text.len()) else {
+            return Err(AllocError);
+        };
+        let Some(n) = count.checked_add(i) else {
+            return Err(AllocError);
+        };
+        // changes of one table often follow each other
+        let known = known(last, entry.0);
+        let offset = tell(alloc, told, at, known, def, &mut piece)?;
+        last = Some(Last {
+            number: entry.0,
+            offset,
+        });
+        push_image(alloc, Which { at: offset, n }, image, &mut piece.text)?;
+    }
+    Ok(piece)
+}
+
 /// The lines of a commit, which begin at this offset of the segment: its messages, and then its
 /// changes, with the definitions that aren't told there.
 fn body(
@@ -90,26 +132,11 @@ fn body(
         (start + length (messages_text messages.now)) 0
         (lines (change_values definitions.now entries.now) images.now)) }
 {
-    let mut piece = Piece {
+    let piece = Piece {
         text: messages_text(alloc, messages)?,
         told: Vec::new(alloc),
     };
-    let mut last = None;
-    for (n, (entry, image)) in entries.reborrow().zip(images).enumerate() {
-        let def = defined(definitions, &entry);
-        let Some(at) = start.checked_add(piece.text.len()) else {
-            return Err(AllocError);
-        };
-        // changes of one table often follow each other
-        let known = known(last, entry.0);
-        let offset = tell(alloc, told, at, known, def, &mut piece)?;
-        last = Some(Last {
-            number: entry.0,
-            offset,
-        });
-        push_image(alloc, Which { at: offset, n }, image, &mut piece.text)?;
-    }
-    Ok(piece)
+    add_lines(alloc, told, start, 0, definitions, entries, images, piece)
 }
 
 /// The CRC-32 of two texts, one after the other.

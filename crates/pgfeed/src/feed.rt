@@ -1,10 +1,14 @@
 //! A feed: segments that follow each other.
 
 ghost use Rattle.std.specs.Prelude.{◌≡◌, ◌<◌, ◌≤◌, ◌⊎◌, ◌↔◌, [], true, false, None, Some};
-ghost use Rattle.std.specs.Prelude.{IsTrue, IfOk, IsSome, OnOk, OnErr, IfErr, is_some, length};
+ghost use Rattle.std.specs.Prelude.{IsTrue, IfOk, IsSome, List, OnOk, OnErr, IfErr, is_some};
+ghost use Rattle.std.specs.Prelude.{length};
 ghost use Rattle.pgapply.specs.Stored.{IsOwnFault};
 ghost use Rattle.pgledger.specs.Entries.{entry_of};
+ghost use Rattle.pgledger.specs.Drafts.{AddsLines, BeginsDraft, KeepsDraft};
+ghost use Rattle.pgledger.specs.Images.{Line, lines};
 ghost use Rattle.pgledger.specs.Ledgers.{Appends, AppendsAtMost, Hears, Keeps, Rests, Syncs};
+ghost use Rattle.pgfeed.specs.Drafts.{HasDraft};
 ghost use Rattle.pgfeed.specs.Feeds.{Ends, Goes, IsFull, IsHonestFeed, IsLate, IsOver, KeepsAll};
 ghost use Rattle.pgfeed.specs.Beside.{KeepsRest, LastsFrom, is_stuck_feed};
 ghost use Rattle.pgfeed.specs.Feeds.{MayEnd, MayGoOver, ReopensAt, TakesAllBack};
@@ -19,7 +23,7 @@ use crate::folder::{Folder, Names, SegmentLimits};
 use crate::hearing::Hearing;
 use crate::segment::Segment;
 use crate::segments::{begin_segment, close_all};
-use pgapply::{About, Commit, LogicalMessage, StoreFault};
+use pgapply::{About, Commit, LogicalMessage, StoreFault, Work};
 use pgledger::{Image, Ledger, Supposing};
 use pglsn::Lsn;
 use std::alloc::Global;
@@ -46,18 +50,18 @@ pub struct Feed<F: Folder + Drop> {
     alloc: Global,
     folder: F,
     ended: Vec<Segment<F::File>>,
-    segment: Segment<F::File>,
+    pub(crate) segment: Segment<F::File>,
     begins: Lsn,
     synced: Lsn,
-    first: Option<i64>,
+    pub(crate) first: Option<i64>,
     names: Names,
     limits: SegmentLimits,
-    hearing: Hearing,
-    cause: Option<MessageFault>,
+    pub(crate) hearing: Hearing,
+    pub(crate) cause: Option<MessageFault>,
 }
 
 /// The first time that is known, else that of this commit.
-fn first_time(first: Option<i64>, about: Option<About>) -> Option<i64>
+pub(crate) fn first_time(first: Option<i64>, about: Option<About>) -> Option<i64>
     ensures { result ≡ first_time first about }
 {
     match (first, about) {
@@ -241,7 +245,11 @@ impl<F: Folder + Drop> Feed<F> {
 
     /// Goes on to the next segment where the open one ends before a commit whose text has so many
     /// bytes. Whether the segment is the same as before.
-    fn make_room(&mut self, about: Option<About>, bytes: usize) -> Result<bool, StoreFault>
+    pub(crate) fn make_room(
+        &mut self,
+        about: Option<About>,
+        bytes: usize,
+    ) -> Result<bool, StoreFault>
         requires { self.old.segment.is_stuck ≡ false }
         ensures goes { Goes F.File.seen F.File.may_leave F.File.is_clean F.is_true
             F.places F.has self.old self.new }
@@ -378,6 +386,8 @@ impl<F: Folder + Drop> Ledger for Feed<F> {
     ghost reopens = { ReopensAt F.File.seen F.File.may_leave F.File.is_clean F.is_true F.places
         F.has };
 
+    ghost drafts = { λ l. HasDraft F.File.seen l.segment (heard_by l) };
+
     fn is_stuck(&self) -> bool {
         self.segment.is_stuck()
     }
@@ -478,10 +488,142 @@ impl<F: Folder + Drop> Ledger for Feed<F> {
         match self.write(commit, images) {
             Ok(()) => Ok(()),
             Err(fault) => {
-                self.cause = self.hearing.lost();
-                self.segment.stop();
+                self.stop();
                 Err(fault)
             }
+        }
+    }
+
+    fn takes_parts(&self) -> bool {
+        true
+    }
+
+    /// Begins a commit that comes in parts, as a draft. The open segment ends before it, if it has
+    /// a commit: how long this one will be isn't known.
+    fn begin_parts(&mut self, about: Option<About>) -> Result<(), StoreFault>
+        ensures begun { OnOk result (BeginsDraft (λ (l : Feed F F.File).
+            HasDraft F.File.seen l.segment (heard_by l)) self.new) }
+        ensures ends { MayEnd F.File.seen F.File.may_leave F.File.is_clean self.old.synced
+            self.old.ended.items self.new.ended.items self.old.segment self.new.segment }
+        ensures kept { Keeps (KeepsRest F.File.seen F.File.may_leave F.File.is_clean F.is_true
+            F.places F.has) self.old self.new }
+        ensures heard { all_heard self.new.hearing ≡ all_heard self.old.hearing }
+        ensures within { HearsWithin self.old → HearsWithin self.new }
+        ensures synced { self.new.synced ≡ self.old.synced }
+        ensures limits { self.new.limits ≡ self.old.limits }
+        ensures was_free { OnOk result (self.old.segment.is_stuck ≡ false) }
+        ensures free { OnOk result (self.new.segment.is_stuck ≡ false) }
+        ensures stuck { OnErr result (self.new.segment.is_stuck ≡ true) }
+        ensures fault { IfErr result IsOwnFault }
+        ensures rests { Rests (λ (l : Feed F F.File). 0) (λ (l : Feed F F.File). true)
+            (λ (l : Feed F F.File). is_some l.limits.messages)
+            (LastsFrom F.File.seen F.File.may_leave F.File.is_clean F.is_true F.places F.has)
+            (ReopensAt F.File.seen F.File.may_leave F.File.is_clean F.is_true F.places F.has)
+            self.old self.new }
+    {
+        if self.segment.is_stuck() {
+            return Err(StoreFault::Refused);
+        }
+        match self.begin_draft(about) {
+            Ok(()) => Ok(()),
+            Err(fault) => {
+                self.stop();
+                Err(fault)
+            }
+        }
+    }
+
+    /// Writes the lines of a part behind those of the parts before it.
+    fn append_part(&mut self, part: &Work<'_>, images: &[Image<'_>]) -> Result<(), StoreFault>
+        ensures added { OnOk result (AddsLines (λ (l : Feed F F.File).
+            HasDraft F.File.seen l.segment (heard_by l)) (lines part.now.changes images.now)
+            self.old self.new) }
+        ensures kept { Keeps (KeepsRest F.File.seen F.File.may_leave F.File.is_clean F.is_true
+            F.places F.has) self.old self.new }
+        ensures heard { all_heard self.new.hearing ≡ all_heard self.old.hearing }
+        ensures within { HearsWithin self.old → HearsWithin self.new }
+        ensures synced { self.new.synced ≡ self.old.synced }
+        ensures limits { self.new.limits ≡ self.old.limits }
+        ensures was_free { OnOk result (self.old.segment.is_stuck ≡ false) }
+        ensures free { OnOk result (self.new.segment.is_stuck ≡ false) }
+        ensures stuck { OnErr result (self.new.segment.is_stuck ≡ true) }
+        ensures fault { IfErr result IsOwnFault }
+        ensures rests { Rests (λ (l : Feed F F.File). 0) (λ (l : Feed F F.File). true)
+            (λ (l : Feed F F.File). is_some l.limits.messages)
+            (LastsFrom F.File.seen F.File.may_leave F.File.is_clean F.is_true F.places F.has)
+            (ReopensAt F.File.seen F.File.may_leave F.File.is_clean F.is_true F.places F.has)
+            self.old self.new }
+    {
+        if self.segment.is_stuck() {
+            return Err(StoreFault::Refused);
+        }
+        match self.add_to_draft(part, images) {
+            Ok(()) => Ok(()),
+            Err(fault) => {
+                self.stop();
+                Err(fault)
+            }
+        }
+    }
+
+    /// Writes the line of the commit, before its lines.
+    fn end_parts(&mut self, end: Lsn, about: Option<About>) -> Result<(), StoreFault>
+        requires { (ls : List Line) × HasDraft F.File.seen self.old.segment (heard_by self.old) ls }
+        ensures appended { OnOk result (KeepsDraft (λ (l : Feed F F.File).
+            HasDraft F.File.seen l.segment (heard_by l)) (KeepsRest F.File.seen F.File.may_leave
+            F.File.is_clean F.is_true F.places F.has) end about (all_heard self.old.hearing)
+            self.old self.new) }
+        ensures at_most { AppendsAtMost (KeepsRest F.File.seen F.File.may_leave
+            F.File.is_clean F.is_true F.places F.has) end self.old self.new }
+        ensures all_heard { OnOk result (IsSome (all_heard self.old.hearing)) }
+        ensures forgot { OnOk result (all_heard self.new.hearing ≡ Some []) }
+        ensures first { OnOk result (IsTimed self.old.first self.new.first about
+            self.old.segment self.new.segment) }
+        ensures within { HearsWithin self.old → HearsWithin self.new }
+        ensures synced { self.new.synced ≡ self.old.synced }
+        ensures limits { self.new.limits ≡ self.old.limits }
+        ensures was_free { OnOk result (self.old.segment.is_stuck ≡ false) }
+        ensures free { OnOk result (self.new.segment.is_stuck ≡ false) }
+        ensures stuck { OnErr result (self.new.segment.is_stuck ≡ true) }
+        ensures fault { IfErr result IsOwnFault }
+        ensures rests { Rests (λ (l : Feed F F.File). 0) (λ (l : Feed F F.File). true)
+            (λ (l : Feed F F.File). is_some l.limits.messages)
+            (LastsFrom F.File.seen F.File.may_leave F.File.is_clean F.is_true F.places F.has)
+            (ReopensAt F.File.seen F.File.may_leave F.File.is_clean F.is_true F.places F.has)
+            self.old self.new }
+    {
+        if self.segment.is_stuck() {
+            return Err(StoreFault::Refused);
+        }
+        match self.end_draft(end, about) {
+            Ok(()) => Ok(()),
+            Err(fault) => {
+                self.stop();
+                Err(fault)
+            }
+        }
+    }
+
+    /// Truncates the lines of a commit whose parts haven't ended.
+    fn drop_parts(&mut self)
+        ensures kept { Keeps (KeepsRest F.File.seen F.File.may_leave F.File.is_clean F.is_true
+            F.places F.has) self.old self.new }
+        ensures heard { all_heard self.new.hearing ≡ all_heard self.old.hearing }
+        ensures within { HearsWithin self.old → HearsWithin self.new }
+        ensures synced { self.new.synced ≡ self.old.synced }
+        ensures limits { self.new.limits ≡ self.old.limits }
+        ensures was_free { self.new.segment.is_stuck ≡ false → self.old.segment.is_stuck ≡ false }
+        ensures rests { Rests (λ (l : Feed F F.File). 0) (λ (l : Feed F F.File). true)
+            (λ (l : Feed F F.File). is_some l.limits.messages)
+            (LastsFrom F.File.seen F.File.may_leave F.File.is_clean F.is_true F.places F.has)
+            (ReopensAt F.File.seen F.File.may_leave F.File.is_clean F.is_true F.places F.has)
+            self.old self.new }
+    {
+        if self.segment.is_stuck() {
+            return;
+        }
+        if self.drop_draft().is_err() {
+            self.stop();
         }
     }
 

@@ -36,9 +36,12 @@
 #![tactic(auto)]
 
 mod changes;
+mod draft;
+mod drafting;
 mod entries;
 mod fault;
 mod feed;
+mod feed_parts;
 mod folder;
 mod heads;
 mod hearing;

@@ -7,9 +7,10 @@ ghost use Rattle.pgapply.specs.Stored.{IsOwnFault};
 ghost use Rattle.pgapply.specs.declared.fault.StoreFault.TheVariants.{Refused};
 ghost use Rattle.pgledger.specs.Entries.{Entry, entry_of};
 ghost use Rattle.sqlite_disk.specs.Disk.{Holds, Only};
-ghost use Rattle.pgfeed.specs.Segments.{IsFinished, KeepsEntries, Lasts, WritesBehind};
+ghost use Rattle.pgfeed.specs.Segments.{IsFinished, KeepsEntries, Lasts, ChangesBehind};
 ghost use Rattle.pgfeed.specs.Next.{FitsNext, IsNext, Remembers, next_text, next_told};
 
+use crate::draft::Draft;
 use crate::entries::{Piece, entry_text};
 use crate::heads::closing_line;
 use crate::told::{Told, remember};
@@ -27,15 +28,19 @@ use std::alloc::Global;
 ///
 /// It remembers which definitions it told since it was made or opened, up to 1,024, and at which
 /// offset of the file each stands, so that the changes of later commits name that.
+///
+/// A commit that comes in parts is a draft at first: its lines are behind the commits and the room
+/// for its own line, which is written last.
 #[derive(Drop)]
 pub struct Segment<D: Disk + Drop> {
-    alloc: Global,
-    disk: D,
+    pub(crate) alloc: Global,
+    pub(crate) disk: D,
     base: Lsn,
-    last: Lsn,
-    size: usize,
-    told: Vec<Told>,
+    pub(crate) last: Lsn,
+    pub(crate) size: usize,
+    pub(crate) told: Vec<Told>,
     is_stuck: bool,
+    pub(crate) draft: Option<Draft>,
 }
 
 /// Makes all that a file has outlast a crash.
@@ -70,6 +75,7 @@ impl<D: Disk + Drop> Segment<D> {
             size,
             told: Vec::new(alloc),
             is_stuck: false,
+            draft: None,
         }
     }
 
@@ -145,7 +151,7 @@ impl<D: Disk + Drop> Segment<D> {
         ensures undone { OnErr result ((self.new.size ≡ self.old.size)
             × (self.new.last ≡ self.old.last)) }
         ensures untold { OnErr result (self.new.told.items ≡ self.old.told.items) }
-        ensures behind { WritesBehind self.old.size (D.seen self.old.disk) (D.seen self.new.disk)
+        ensures behind { ChangesBehind self.old.size (D.seen self.old.disk) (D.seen self.new.disk)
             (D.may_leave self.old.disk) (D.may_leave self.new.disk) }
         ensures base { self.new.base ≡ self.old.base }
         ensures stuck { self.new.is_stuck ≡ self.old.is_stuck }
@@ -153,6 +159,7 @@ impl<D: Disk + Drop> Segment<D> {
         ensures fault { IfErr result (λ fault. fault ≡ Refused) }
     {
         let Piece { text, told } = piece;
+        self.draft = None; // Its lines are written over.
         if !self.disk.may_be_used() {
             return Err(StoreFault::Refused);
         }
@@ -187,7 +194,7 @@ impl<D: Disk + Drop> Segment<D> {
         ensures undone { OnErr result ((self.new.size ≡ self.old.size)
             × (self.new.last ≡ self.old.last)) }
         ensures untold { OnErr result (self.new.told.items ≡ self.old.told.items) }
-        ensures behind { WritesBehind self.old.size (D.seen self.old.disk) (D.seen self.new.disk)
+        ensures behind { ChangesBehind self.old.size (D.seen self.old.disk) (D.seen self.new.disk)
             (D.may_leave self.old.disk) (D.may_leave self.new.disk) }
         ensures base { self.new.base ≡ self.old.base }
         ensures stuck { self.new.is_stuck ≡ self.old.is_stuck }
@@ -243,7 +250,7 @@ impl<D: Disk + Drop> Segment<D> {
             (D.seen self.old.disk) es →
             IsFinished self.old.base self.old.last es (D.seen self.new.disk)
             (D.may_leave self.new.disk)) }
-        ensures behind { WritesBehind self.old.size (D.seen self.old.disk) (D.seen self.new.disk)
+        ensures behind { ChangesBehind self.old.size (D.seen self.old.disk) (D.seen self.new.disk)
             (D.may_leave self.old.disk) (D.may_leave self.new.disk) }
         ensures base { self.new.base ≡ self.old.base }
         ensures last { self.new.last ≡ self.old.last }
@@ -272,7 +279,7 @@ impl<D: Disk + Drop> Segment<D> {
 }
 
 impl<D: Disk + Drop> Ledger for Segment<D> {
-    ghost use Rattle.std.specs.Prelude.{[], true, false, Some};
+    ghost use Rattle.std.specs.Prelude.{⊤, [], true, false, Some};
     ghost use Rattle.pgfeed.specs.Segments.{KeepsEntries, Lasts, Reopens};
     ghost use Rattle.pgfeed.specs.Cutting.Opened.{cut_at, wants_all};
 
@@ -290,6 +297,9 @@ impl<D: Disk + Drop> Ledger for Segment<D> {
     ghost is_hearing = { λ _. false };
 
     ghost heard = { λ _. Some [] };
+
+    // By itself a segment takes no parts.
+    ghost drafts = { λ _ _. ⊤ };
 
     ghost reopens = { λ l p other. Reopens l.base l.size (D.Disk.may_leave l.disk) p other.base
         other.last other.size other.told.items (D.Disk.seen other.disk)

@@ -1,5 +1,6 @@
 -- A store's ledger goes on with its commits, and is the same where it is opened anew.
-use Rattle.std.proofs.Common.{◌≡◌, ◌≢◌, ◌<◌, ◌≤◌, ◌++◌, inl, inr, ℕ, List, [], ◌∷◌, Bool, true}
+use Rattle.std.proofs.Common.{◌≡◌, ◌≢◌, ◌<◌, ◌≤◌, ◌++◌, ◌⊎◌, inl, inr, ℕ, List, [], ◌∷◌}
+use Rattle.std.proofs.Common.{Bool, true}
 use Rattle.std.proofs.Common.{false, Result, Ok, Err, OnOk, OnErr, Option, refl, sym, ap, subst}
 use Rattle.std.proofs.Common.{◌∙◌, arith}
 use Rattle.std.specs.Prelude.{◌==◌}
@@ -33,6 +34,10 @@ of_err (Err e) p q r f = f p q r
 pub of_both : {A E : Type 0} {P Q R S : Type 0} (r : Result A E) → OnOk r P → OnErr r Q → OnErr r R → (P → S) → (Q → R → S) → S
 of_both (Ok x) p q r f g = f p
 of_both (Err e) p q r f g = g q r
+
+either : (b : Bool) → (b ≡ true) ⊎ (b ≡ false)
+either true = inl refl
+either false = inr refl
 
 -- something is staged
 pub some_staged : (reach place : ℕ) (is_empty : Bool) → place ≤ reach → is_empty ≡ (reach == place) → is_empty ≡ false → place < reach
@@ -206,6 +211,26 @@ module _ {L : Type 0} (begins : L → ℕ) (keeps : L → List Entry → Type 0)
           staged =
               λ stands. absurd (let never : ⊥ = cc in never);
         }
+      ]
+
+    -- a commit that came in parts was refused
+    module _ (end : ℕ) (later : place < end) (adds : AppendsAtMost keeps end old new)
+        (free : is_stuck new ≡ false → is_stuck old ≡ false) (kept : is_stuck new ≡ false → Keeps keeps old new) (reach : ℕ) where
+      pub dropped_parts_records : Records begins keeps outlasts is_stuck old tables place reach
+          → Records begins keeps outlasts is_stuck new tables place reach
+      dropped_parts_records k = elim (either (is_stuck new)) [
+        | inl stuck ↦ more_records reach reach end later adds (λ stands _. let never : ⊥ = cc in never) k
+        | inr stands ↦ still_records (kept stands) free reach k
+      ]
+
+      pub dropped_parts_plans : Plans begins keeps outlasts is_stuck old tables place reach
+          → Plans begins keeps outlasts is_stuck new tables place reach
+      dropped_parts_plans h = elim (either (is_stuck new)) [
+        | inl stuck ↦ record {
+          held = λ here. dropped_parts_records (h.held here);
+          staged = λ stands. absurd (let never : ⊥ = cc in never);
+        }
+        | inr stands ↦ still_plans (kept stands) free reach h
       ]
 
     -- a commit more is staged

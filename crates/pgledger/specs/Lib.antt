@@ -1,4 +1,5 @@
 pub mod Images
 pub mod Entries
 pub mod Ledgers
+pub mod Drafts
 pub mod Records

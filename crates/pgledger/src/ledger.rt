@@ -6,9 +6,12 @@ ghost use Rattle.pgapply.specs.Stored.{IsOwnFault};
 ghost use Rattle.pgledger.specs.Entries.{Entry, entry_of, messages_of};
 ghost use Rattle.pgledger.specs.Ledgers.{Appends, AppendsAtMost, CutsAt, Keeps, Rests, Syncs};
 ghost use Rattle.pgledger.specs.Ledgers.{Hears, UnaskedKeeps};
+ghost use Rattle.pgledger.specs.Drafts.{AddsLines, BeginsDraft, HasDraft, KeepsDraft};
+ghost use Rattle.pgledger.specs.Images.{Line, lines};
 
 use crate::image::Image;
-use pgapply::{Commit, LogicalMessage, StoreFault};
+use pgapply::{About, Commit, LogicalMessage, StoreFault, Work};
+use pglsn::Lsn;
 
 /// A ledger of commits, as a file or a queue that others read. A store hands it each commit that it
 /// stages, and has it synced before it stores them. So it never has less than the store, and more
@@ -49,6 +52,9 @@ pub trait Ledger {
 
     /// The other one was opened at this LSN, on what a crash at this moment may leave of this one.
     ghost reopens: { Self → ℕ → Self → Type 0 };
+
+    /// It has these lines of a commit that comes in parts, which it doesn't keep yet.
+    ghost drafts: { Self → List Line → Type 0 };
 
     /// Whether it accepts nothing more.
     fn is_stuck(&self) -> bool
@@ -95,6 +101,85 @@ pub trait Ledger {
         ensures fault { IfErr result IsOwnFault }
         ensures rests { Rests begins is_wanting is_hearing outlasts reopens self.old
             self.new };
+
+    /// Whether it takes a commit in parts. No clause speaks of it.
+    fn takes_parts(&self) -> bool {
+        false
+    }
+
+    /// Begins a commit that comes in parts, with the messages that were heard. What was begun
+    /// before is dropped.
+    ///
+    /// # Errors
+    ///
+    /// `Memory` or `Refused`, also where it is stuck, where not all messages were kept, and where
+    /// it takes no parts.
+    fn begin_parts(&mut self, about: Option<About>) -> Result<(), StoreFault>
+        ensures begun { OnOk result (BeginsDraft drafts self.new) }
+        ensures kept { Keeps keeps self.old self.new }
+        ensures heard { heard self.new ≡ heard self.old }
+        ensures was_free { OnOk result (is_stuck self.old ≡ false) }
+        ensures free { OnOk result (is_stuck self.new ≡ false) }
+        ensures stuck { OnErr result (is_stuck self.new ≡ true) }
+        ensures fault { IfErr result IsOwnFault }
+        ensures rests { Rests begins is_wanting is_hearing outlasts reopens self.old self.new }
+    {
+        self.stick();
+        Err(StoreFault::Refused)
+    }
+
+    /// Takes the changes of a part, with one image for each, behind those of the parts before it.
+    /// The ledger doesn't keep them until all parts have ended.
+    ///
+    /// # Errors
+    ///
+    /// `Memory` or `Refused`, also where it is stuck, and where no commit was begun.
+    fn append_part(&mut self, part: &Work<'_>, images: &[Image<'_>]) -> Result<(), StoreFault>
+        ensures added { OnOk result
+            (AddsLines drafts (lines part.now.changes images.now) self.old self.new) }
+        ensures kept { Keeps keeps self.old self.new }
+        ensures heard { heard self.new ≡ heard self.old }
+        ensures was_free { OnOk result (is_stuck self.old ≡ false) }
+        ensures free { OnOk result (is_stuck self.new ≡ false) }
+        ensures stuck { OnErr result (is_stuck self.new ≡ true) }
+        ensures fault { IfErr result IsOwnFault }
+        ensures rests { Rests begins is_wanting is_hearing outlasts reopens self.old self.new }
+    {
+        self.stick();
+        Err(StoreFault::Refused)
+    }
+
+    /// Keeps the commit that was begun, with the parts that were taken, as `append` does.
+    ///
+    /// # Errors
+    ///
+    /// Those of `append`.
+    fn end_parts(&mut self, end: Lsn, about: Option<About>) -> Result<(), StoreFault>
+        requires { HasDraft drafts self.old }
+        ensures appended { OnOk result (KeepsDraft drafts keeps end about (heard self.old)
+            self.old self.new) }
+        ensures all_heard { OnOk result (IsSome (heard self.old)) }
+        ensures forgot { OnOk result (heard self.new ≡ Some []) }
+        ensures was_free { OnOk result (is_stuck self.old ≡ false) }
+        ensures free { OnOk result (is_stuck self.new ≡ false) }
+        ensures at_most { AppendsAtMost keeps end self.old self.new }
+        ensures stuck { OnErr result (is_stuck self.new ≡ true) }
+        ensures fault { IfErr result IsOwnFault }
+        ensures rests { Rests begins is_wanting is_hearing outlasts reopens self.old self.new }
+    {
+        self.stick();
+        Err(StoreFault::Refused)
+    }
+
+    /// Drops what it has of a commit whose parts haven't ended. Where that fails, it is stuck.
+    fn drop_parts(&mut self)
+        ensures kept { Keeps keeps self.old self.new }
+        ensures heard { heard self.new ≡ heard self.old }
+        ensures was_free { is_stuck self.new ≡ false → is_stuck self.old ≡ false }
+        ensures rests { Rests begins is_wanting is_hearing outlasts reopens self.old self.new }
+    {
+        self.stick();
+    }
 
     /// Makes all that was appended outlast a crash.
     ///
@@ -183,6 +268,8 @@ impl Ledger for NoLedger {
 
     ghost reopens = { λ _ _ _. ⊤ };
 
+    ghost drafts = { λ _ _. ⊤ };
+
     fn is_stuck(&self) -> bool {
         self.is_stuck
     }
@@ -206,6 +293,24 @@ impl Ledger for NoLedger {
             Ok(())
         }
     }
+
+    fn takes_parts(&self) -> bool {
+        true
+    }
+
+    fn begin_parts(&mut self, _about: Option<About>) -> Result<(), StoreFault> {
+        self.sync()
+    }
+
+    fn append_part(&mut self, _part: &Work<'_>, _images: &[Image<'_>]) -> Result<(), StoreFault> {
+        self.sync()
+    }
+
+    fn end_parts(&mut self, _end: Lsn, _about: Option<About>) -> Result<(), StoreFault> {
+        self.sync()
+    }
+
+    fn drop_parts(&mut self) {}
 
     fn sync(&mut self) -> Result<(), StoreFault> {
         if self.is_stuck {

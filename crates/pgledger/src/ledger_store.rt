@@ -12,7 +12,8 @@ ghost use Rattle.pgledger.specs.Ledgers.{Appends, AppendsAtMost, Keeps, Rests, S
 ghost use Rattle.pgledger.specs.Ledgers.{Syncs};
 
 use crate::ledger::Ledger;
-use pgapply::{Commit, ReplicaStore, StoreFault};
+use pgapply::{About, Commit, Parts, ReplicaStore, StoreFault};
+use pglsn::Lsn;
 
 /// A store that gives a ledger each commit that it stages, with the images of its changes, and has
 /// it synced before it stores them. Over `NoLedger` these calls are `stage` and `settle`.
@@ -72,6 +73,65 @@ pub trait LedgerStore: ReplicaStore {
         ensures free { OnOk result (L.is_stuck ledger.new ≡ false) }
         ensures at_most { AppendsAtMost L.keeps commit.now.end ledger.old ledger.new }
         ensures untold { OnErr result (StaysOrSticks L.is_stuck ledger.old ledger.new) }
+        ensures rests { Rests L.begins L.is_wanting L.is_hearing L.outlasts L.reopens ledger.old
+            ledger.new };
+
+    /// Stages a commit as `stage_parts` does, and gives the ledger each part with the images of its
+    /// changes as it is made. Once all are made, the ledger keeps the commit, with the messages
+    /// that it has heard.
+    ///
+    /// # Errors
+    ///
+    /// Those of `stage_parts`, and those of the ledger. Where the ledger isn't stuck, it keeps what
+    /// it kept.
+    fn stage_parts_with<P: Parts, L: Ledger>(
+        &mut self,
+        end: Lsn,
+        about: Option<About>,
+        parts: &mut P,
+        ledger: &mut L,
+    ) -> Result<(), StoreFault>
+        requires { Self.ReplicaStore.reach self.old < end }
+        ensures staged { Self.ReplicaStore.serves self.new → P.is_honest parts.new →
+            OnOk result (Folds Self.ReplicaStore.stages self.old self.new (P.left parts.old)) }
+        ensures end { OnOk result (Self.ReplicaStore.reach self.new ≡ end) }
+        ensures undone { Self.ReplicaStore.serves self.new → OnErr result
+            (Stays Self.ReplicaStore.stages self.old self.new) }
+        ensures reach { OnErr result
+            (Self.ReplicaStore.reach self.new ≡ Self.ReplicaStore.reach self.old) }
+        ensures fault { Self.ReplicaStore.serves self.new → P.is_honest parts.new →
+            IfErr result (RefusesWork Self.ReplicaStore.stages self.old (P.left parts.old)) }
+        ensures why { Self.ReplicaStore.is_honest self.new → Self.ReplicaStore.serves self.old →
+            P.is_honest parts.new → IfErr result
+            (RefusesWork Self.ReplicaStore.stages self.old (P.left parts.old)) }
+        ensures unchanged { Self.ReplicaStore.serves self.new →
+            Stays Self.ReplicaStore.holds self.old self.new }
+        ensures position { Self.ReplicaStore.place self.new ≡ Self.ReplicaStore.place self.old }
+        ensures counts { Self.ReplicaStore.serves self.new → P.is_honest parts.new →
+            OnOk result (Counts Self.ReplicaStore.stages self.old (P.left parts.old) end
+            (Self.ReplicaStore.stages_missed self.old) (Self.ReplicaStore.stages_missed self.new)) }
+        ensures uncounted { OnErr result (Self.ReplicaStore.stages_missed self.new
+            ≡ Self.ReplicaStore.stages_missed self.old) }
+        ensures missed { Self.ReplicaStore.missed self.new ≡ Self.ReplicaStore.missed self.old }
+        ensures leads { P.leads parts.old parts.new }
+        ensures served { Self.ReplicaStore.serves self.new → Self.ReplicaStore.serves self.old }
+        ensures open { Self.ReplicaStore.is_honest self.new →
+            OnOk result (Self.ReplicaStore.serves self.new) }
+        ensures honest { Self.ReplicaStore.is_honest self.new →
+            Self.ReplicaStore.is_honest self.old }
+        ensures crash { Self.ReplicaStore.is_honest self.new → (other : Self) →
+            Self.ReplicaStore.reopens self.new other → Self.ReplicaStore.reopens self.old other }
+        ensures told { Self.ReplicaStore.serves self.new → P.is_honest parts.new → OnOk result
+            ((tables : Tables) → Self.ReplicaStore.stages self.old tables →
+            Appends L.keeps (entry_of end about (messages_of (L.heard ledger.old))
+            (P.left parts.old) (images tables (P.left parts.old))) ledger.old ledger.new) }
+        ensures all_heard { OnOk result (IsSome (L.heard ledger.old)) }
+        ensures forgot { OnOk result (L.heard ledger.new ≡ Some []) }
+        ensures free { OnOk result (L.is_stuck ledger.new ≡ false) }
+        ensures was_free { L.is_stuck ledger.new ≡ false → L.is_stuck ledger.old ≡ false }
+        ensures at_most { AppendsAtMost L.keeps end ledger.old ledger.new }
+        ensures untold { OnErr result (L.is_stuck ledger.new ≡ false →
+            Keeps L.keeps ledger.old ledger.new) }
         ensures rests { Rests L.begins L.is_wanting L.is_hearing L.outlasts L.reopens ledger.old
             ledger.new };
 

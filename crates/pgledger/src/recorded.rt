@@ -160,17 +160,16 @@ impl<S: LedgerStore + Drop, L: Ledger + Supposing + Drop> ReplicaStore for Recor
         self.store.stage_with(commit, &mut self.ledger)
     }
 
-    /// Whether the store stages the changes of a commit part after part, and nobody is told of
-    /// them.
+    /// Whether the store stages the changes of a commit part after part, and the ledger takes them.
     fn takes_parts(&self) -> bool {
-        self.store.takes_parts() && !self.ledger.wants()
+        self.store.takes_parts() && self.ledger.takes_parts()
     }
 
-    /// Stages a commit of parts in the store. The ledger isn't told of it: it wants no images.
+    /// Stages a commit of parts in the store, which gives each to the ledger.
     ///
     /// # Errors
     ///
-    /// Those of the store. `Refused` too where the ledger is stuck or wants images.
+    /// Those of the store, and those of the ledger.
     fn stage_parts<P: Parts>(
         &mut self,
         end: Lsn,
@@ -178,6 +177,11 @@ impl<S: LedgerStore + Drop, L: Ledger + Supposing + Drop> ReplicaStore for Recor
         parts: &mut P,
     ) -> Result<(), StoreFault>
         requires { S.reach self.old.store < end }
+        ensures told { S.serves self.new.store → P.is_honest parts.new → OnOk result
+            ((tables : Tables) → S.stages self.old.store tables → Appends L.keeps (entry_of end
+            about (messages_of (L.heard self.old.ledger)) (P.left parts.old)
+            (images tables (P.left parts.old))) self.old.ledger self.new.ledger) }
+        ensures all_heard { OnOk result (IsSome (L.heard self.old.ledger)) }
         ensures forgot { OnOk result (L.heard self.new.ledger ≡ Some []) }
         ensures free { OnOk result (L.is_stuck self.new.ledger ≡ false) }
         ensures staged { S.serves self.new.store → P.is_honest parts.new → OnOk result
@@ -212,14 +216,13 @@ impl<S: LedgerStore + Drop, L: Ledger + Supposing + Drop> ReplicaStore for Recor
             ⟦<Recorded<S, L> as ReplicaStore>⟧.reopens self.new other →
             ⟦<Recorded<S, L> as ReplicaStore>⟧.reopens self.old other }
     {
-        if self.ledger.is_stuck() || self.ledger.wants() {
+        if self.ledger.is_stuck() {
             return Err(StoreFault::Refused);
         }
         // the call tells that what is staged doesn't end before the position
         let _reached = self.store.reached();
-        self.store.stage_parts(end, about, parts)?;
-        self.ledger.forget(); // What it heard is of that commit.
-        Ok(())
+        self.store
+            .stage_parts_with(end, about, parts, &mut self.ledger)
     }
 
     /// Hands a message on to the ledger.

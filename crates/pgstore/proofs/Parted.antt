@@ -1,6 +1,6 @@
 -- Changes that come part after part.
 use Rattle.std.proofs.Common.{◌≡◌, ◌≤◌, ◌<◌, ◌^◌, ℕ, zero, suc, List, [], ◌∷◌, ◌++◌, Bool, false}
-use Rattle.std.proofs.Common.{Result, Ok, Err, OnOk, IsTrue, refl, sym, ap, subst, ◌∙◌}
+use Rattle.std.proofs.Common.{IsTrue, refl, sym, ap, subst, ◌∙◌}
 use Rattle.std.proofs.Common.{append_assoc}
 use Rattle.std.proofs.Common.{arith}
 use Rattle.std.specs.Prelude.{◌==◌}
@@ -28,12 +28,6 @@ use Rattle.pgstore.proofs.Behind.{stages}
 use Rattle.pgstore.proofs.Counting.{counted_more, counted_none}
 use Rattle.pgstore.proofs.Deciding.{fault_first}
 use Rattle.pgstore.proofs.Groups.{staged_group}
-
--- ---- results
-
-pub both_ok : {A E : Type 0} {P Q R : Type 0} (r : Result A E) → OnOk r P → OnOk r Q → (P → Q → R) → OnOk r R
-both_ok (Ok a) p q f = f p q
-both_ok (Err e) p q f = tt
 
 -- ---- any changes are those of a work: each has a definition of its own
 

@@ -10,10 +10,12 @@ use Rattle.pgapply.specs.declared.commit.About.{About}
 use Rattle.pgapply.specs.Value.{Rows, Tables}
 use Rattle.pgapply.specs.Apply.{Change, ◌>>=◌, apply, fold_changes, found_rows}
 use Rattle.pgledger.specs.declared.image.Image.{Image}
-use Rattle.pgledger.specs.Images.{change_image, image_of, images, images_after, rows_or_none}
+use Rattle.pgledger.specs.Images.{Line, change_image, image_of, images, images_after, lines}
+use Rattle.pgledger.specs.Images.{rows_or_none}
 use Rattle.pgledger.specs.declared.heard.Heard.{Heard}
 use Rattle.pgledger.specs.Entries.{Entry, entry_of}
 use Rattle.pgledger.specs.Ledgers.{Appends, UnaskedKeeps}
+use Rattle.pgledger.specs.Drafts.{AddsLines}
 use Rattle.pgstore.specs.Looks.{begun_telling, told_more}
 
 -- ---- one change
@@ -82,3 +84,33 @@ module _ {L : Type 0} (keeps : L → List Entry → Type 0) (is_wanting : L → 
       subst (λ told. keeps new (es ++ entry_of end about messages changes told ∷ []))
       (subst (λ o. IfSome o (λ told. shown ≡ told)) is shows) (appends es kept)
   told_appends false asks telling shown more is shows appends es kept = unasked new (still ∙ sym asks) _
+
+-- ---- a ledger that is given a commit in parts
+
+lines_after : (a b : List Change) (next : Tables) (r : Result Tables StoreFault) → (r >>= λ t. fold_changes t a) ≡ Ok next
+    → ((t : Tables) → fold_changes t a ≡ Ok next
+    → lines (a ++ b) (images t (a ++ b)) ≡ lines a (images t a) ++ lines b (images next b))
+    → lines (a ++ b) (images_after r (λ t. images t (a ++ b)))
+    ≡ lines a (images_after r (λ t. images t a)) ++ lines b (images next b)
+lines_after a b next (Ok t) made then = then t made
+lines_after a b next (Err e) made then = absurd (let never : ⊥ = cc in never)
+
+-- the lines of some changes, and those of more over what these lead to
+pub lines_append : (a b : List Change) (v next : Tables) → fold_changes v a ≡ Ok next
+    → lines (a ++ b) (images v (a ++ b)) ≡ lines a (images v a) ++ lines b (images next b)
+unfolding images fold_changes
+lines_append [] b v next made = ap (λ t. lines b (images t b)) (let same : v ≡ next = cc in same)
+lines_append (c ∷ a) b v next made =
+    ap (λ l. record { definition = c.definition; image = change_image v c } ∷ l)
+    (lines_after a b next (apply v c) made (λ t. lines_append a b t next))
+
+module _ {L : Type 0} (drafts : L → List Line → Type 0) (is_wanting : L → Bool) (old new : L) where
+  -- it has the images of a part
+  pub told_adds : (wants : Bool) → wants ≡ is_wanting old → (telling : Option (List Image)) (v : Tables) (shown : List Image)
+      (given here : List Change) → given ≡ here → is_wanting old ≡ true → telling ≡ told_more (begun_telling wants) (images v here)
+      → IfSome telling (λ told. shown ≡ told) → AddsLines drafts (lines given shown) old new
+      → AddsLines drafts (lines here (images v here)) old new
+  told_adds true asks telling v shown given here same wanting is shows adds ls has =
+      subst (λ told. drafts new (ls ++ lines here told)) (subst (λ o. IfSome o (λ told. shown ≡ told)) is shows)
+      (subst (λ cs. drafts new (ls ++ lines cs shown)) same (adds ls has))
+  told_adds false asks telling v shown given here same wanting is shows adds ls has = absurd (let never : ⊥ = cc in never)

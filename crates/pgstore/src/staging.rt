@@ -57,7 +57,7 @@ impl Unstaged {
     }
 
     /// All that was staged is lost, since the ledger has failed.
-    fn untold(fault: StoreFault) -> Unstaged
+    pub(crate) fn untold(fault: StoreFault) -> Unstaged
         requires { IsOwnFault fault }
         ensures own { IsOwnFault result.refusal }
         ensures lost { result.is_lost ≡ true }

@@ -1,5 +1,8 @@
 //! Commits for a feed.
 
+ghost use Rattle.std.specs.Prelude.{OnOk};
+ghost use Rattle.pgledger.specs.Drafts.{HasDraft};
+
 use pgapply::{Commit, Op, StoreFault, Work};
 use pgledger::{Image, Ledger};
 use pglogical::{Column, RelationDef};
@@ -48,15 +51,13 @@ fn work_of<'a>(rt: &(impl Abort + AllocGlobal), definitions: &[(u32, i32)]) -> W
     work
 }
 
-/// Appends a commit with these definitions, and with an Insert for each of these numbers of them.
-pub(crate) fn append_inserts<L: Ledger>(
+/// These definitions, and an Insert of the row for each of these numbers of them, with its image.
+fn inserts_of<'a>(
     rt: &(impl Abort + AllocGlobal),
-    ledger: &mut L,
-    end: Lsn,
+    row: &'a Tuple,
     definitions: &[(u32, i32)],
     numbers: &[usize],
-) -> Result<(), StoreFault> {
-    let row = row(rt);
+) -> (Work<'a>, Vec<Image<'a>>) {
     let mut work = work_of(rt, definitions);
     let mut images = Vec::new(rt.alloc());
     for number in numbers {
@@ -69,6 +70,49 @@ pub(crate) fn append_inserts<L: Ledger>(
             .expect(rt, "a change");
         images.push(image).expect(rt, "an image");
     }
+    (work, images)
+}
+
+/// Appends a part of a commit, with Inserts as `append_inserts` does.
+pub(crate) fn append_part<L: Ledger>(
+    rt: &(impl Abort + AllocGlobal),
+    ledger: &mut L,
+    definitions: &[(u32, i32)],
+    numbers: &[usize],
+) -> Result<(), StoreFault>
+    requires { HasDraft L.drafts ledger.old }
+    ensures { OnOk result (HasDraft L.drafts ledger.new) }
+{
+    let row = row(rt);
+    let (work, images) = inserts_of(rt, &row, definitions, numbers);
+    ledger.append_part(&work, &images)
+}
+
+/// Appends a commit as `append_inserts` does, in two parts.
+pub(crate) fn append_in_parts<L: Ledger>(
+    rt: &(impl Abort + AllocGlobal),
+    ledger: &mut L,
+    end: Lsn,
+    definitions: &[(u32, i32)],
+    first: &[usize],
+    second: &[usize],
+) -> Result<(), StoreFault> {
+    ledger.begin_parts(None)?;
+    append_part(rt, ledger, definitions, first)?;
+    append_part(rt, ledger, definitions, second)?;
+    ledger.end_parts(end, None)
+}
+
+/// Appends a commit with these definitions, and with an Insert for each of these numbers of them.
+pub(crate) fn append_inserts<L: Ledger>(
+    rt: &(impl Abort + AllocGlobal),
+    ledger: &mut L,
+    end: Lsn,
+    definitions: &[(u32, i32)],
+    numbers: &[usize],
+) -> Result<(), StoreFault> {
+    let row = row(rt);
+    let (work, images) = inserts_of(rt, &row, definitions, numbers);
     let commit = Commit {
         end,
         about: None,
@@ -86,4 +130,14 @@ pub(crate) fn append_at<L: Ledger>(
 ) -> Result<(), StoreFault> {
     let modifier = i32::try_from(end.0 / 0x100).expect(rt, "a modifier");
     append_inserts(rt, ledger, end, &[(16384, modifier)], &[0])
+}
+
+/// The same in two parts, of which the second has no change.
+pub(crate) fn append_parts_at<L: Ledger>(
+    rt: &(impl Abort + AllocGlobal),
+    ledger: &mut L,
+    end: Lsn,
+) -> Result<(), StoreFault> {
+    let modifier = i32::try_from(end.0 / 0x100).expect(rt, "a modifier");
+    append_in_parts(rt, ledger, end, &[(16384, modifier)], &[0], &[])
 }

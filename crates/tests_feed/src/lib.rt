@@ -3,6 +3,7 @@
 //! - What a folder has after a stop at any call, and opening it again.
 //! - Which messages a commit tells, and for which it is rejected.
 //! - Where the definitions of changes stand.
+//! - Commits that come in parts.
 #![tactic(auto)]
 
 #[cfg(test)]
@@ -15,5 +16,7 @@ mod feeds;
 mod folders;
 #[cfg(test)]
 mod messages;
+#[cfg(test)]
+mod parts;
 #[cfg(test)]
 mod stopped;

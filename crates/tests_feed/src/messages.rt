@@ -71,7 +71,7 @@ static ROWS: [Row; 9] = [
     },
 ];
 
-fn hear(feed: &mut Feed<MemoryFolder>, heard: &[Message]) {
+pub(crate) fn hear(feed: &mut Feed<MemoryFolder>, heard: &[Message]) {
     for (prefix, content, is_streamed) in heard {
         feed.hear(&LogicalMessage {
             lsn: Lsn(0x180),

@@ -1,6 +1,6 @@
 //! Feeds in memory that are written, stopped at each of their calls, and opened again.
 
-use crate::commits::append_at;
+use crate::commits::{append_at, append_parts_at};
 use crate::folders::{MemoryFolder, Stop, Stored};
 use pgapply::StoreFault;
 use pgfeed::{Feed, FeedFault, Folder, Origin, SegmentLimits};
@@ -22,17 +22,27 @@ const ONE: SegmentLimits = SegmentLimits {
     messages: None,
 };
 
-/// How a run goes: where its segments end, and how many commits are settled at once.
+/// How a run goes: where its segments end, how many commits are settled at once, and whether they
+/// come in parts.
 #[derive(Clone, Copy, Debug)]
 struct Course {
     limits: SegmentLimits,
     group: u64,
+    in_parts: bool,
 }
 
 /// Each commit is settled by itself.
 const SINGLY: Course = Course {
     limits: TWO,
     group: 1,
+    in_parts: false,
+};
+
+/// Each commit comes in parts, and begins a segment.
+const PARTED: Course = Course {
+    limits: ONE,
+    group: 2,
+    in_parts: true,
 };
 
 /// Segments end amid the commits that are settled at once.
@@ -40,18 +50,22 @@ static GROUPED: [Course; 4] = [
     Course {
         limits: TWO,
         group: 2,
+        in_parts: false,
     },
     Course {
         limits: TWO,
         group: 5,
+        in_parts: false,
     },
     Course {
         limits: ONE,
         group: 3,
+        in_parts: false,
     },
     Course {
         limits: ONE,
         group: 5,
+        in_parts: false,
     },
 ];
 
@@ -79,26 +93,31 @@ fn append<F: Folder + Drop>(
     rt: &(impl Abort + AllocGlobal),
     feed: &mut Feed<F>,
     end: u64,
+    in_parts: bool,
     settles: bool,
 ) -> Result<(), StoreFault> {
-    append_at(rt, feed, Lsn(end))?;
+    if in_parts {
+        append_parts_at(rt, feed, Lsn(end))?;
+    } else {
+        append_at(rt, feed, Lsn(end))?;
+    }
     if settles { feed.sync() } else { Ok(()) }
 }
 
 /// Appends the commits that end after this LSN, so many settled at once, and notes up to where that
-/// was done.
+/// was done. They may come in parts.
 fn go_on<F: Folder + Drop>(
     rt: &(impl Abort + AllocGlobal),
     feed: &mut Feed<F>,
-    group: u64,
+    course: Course,
     settled: &mut Lsn,
 ) -> Result<(), StoreFault> {
     let mut staged: u64 = 0;
     for end in &ENDS {
         if settled.0 < *end {
             staged = staged.saturating_add(1);
-            let settles = staged == group || *end == LAST;
-            append(rt, feed, *end, settles)?;
+            let settles = staged == course.group || *end == LAST;
+            append(rt, feed, *end, course.in_parts, settles)?;
             if settles {
                 *settled = Lsn(*end);
                 staged = 0;
@@ -125,7 +144,7 @@ fn follow<F: Folder + Drop>(
 ) -> F {
     match open(rt, folder, course.limits, *settled) {
         Ok(mut feed) => {
-            let _ended = go_on(rt, &mut feed, course.group, settled);
+            let _ended = go_on(rt, &mut feed, course, settled);
             folder_of(feed)
         }
         Err((_, folder)) => folder,
@@ -213,4 +232,17 @@ fn has_the_same_bytes_after_a_stop_at_any_call(rt: HostRuntime) {
         try_stops(&rt, GROUPED[1], left);
     }
     try_stops(&rt, GROUPED[3], Some(0x300));
+    for left in [None, Some(0x300)] {
+        try_stops(&rt, PARTED, left);
+    }
+}
+
+// Segments have the same bytes whether their commits came in parts or not.
+#[test]
+fn has_the_same_bytes_of_commits_in_parts(rt: HostRuntime) {
+    let once = Course {
+        in_parts: false,
+        ..PARTED
+    };
+    assert!(&rt; whole(&rt, PARTED).as_slice() == whole(&rt, once).as_slice());
 }

@@ -7,10 +7,10 @@ use Rattle.std.specs.List.{AllByRecursion}
 use Rattle.pgfeed.specs.declared.told.Told.{Told}
 use Rattle.pgfeed.specs.Reading.{AreEntries, AreWritten, Stands, Walks, mark_of}
 use Rattle.pgfeed.specs.Segments.{Begins, IsFound, IsFront, IsHead, KeepsEntries, Lasts, LastsAs}
-use Rattle.pgfeed.specs.Segments.{Reopens, WritesBehind}
+use Rattle.pgfeed.specs.Segments.{Reopens, ChangesBehind}
 use Rattle.pgfeed.specs.Texts.{Bodies, entries_text}
 use Rattle.pgfeed.specs.Cutting.Walking.{drop_front, one_walk, over_entries}
-use Rattle.pgfeed.specs.Cutting.Files.{begins_torn, front_of}
+use Rattle.pgfeed.specs.Cutting.Files.{begins_stays, front_of}
 use Rattle.pgfeed.specs.Cutting.Kept.{entries_front}
 use Rattle.pgfeed.specs.Cutting.Written.{text_append, written_front}
 
@@ -112,25 +112,25 @@ cut_at base last size place new_base new_last new_size known new_told file new_f
       subst (λ b. Lasts b new_size after place) (sym opened.base_is) lasts,
     )
 
--- a call that writes behind leaves what lasts, and a crash behind it no less
+-- a call that changes what is behind leaves what lasts, and a crash behind it no less
 pub lasts_as : (base size more place : ℕ) (old new front : List ℕ) (before after : List ℕ → Type 0) → size ≤ more
-    → WritesBehind size old new before after → LastsAs base size before place front
+    → ChangesBehind size old new before after → LastsAs base size before place front
     → LastsAs base more after place front
 lasts_as base size more place old new front before after up writes lasting = record {
   is_front = lasting.is_front;
   within = omega (arith, lasting.within);
-  each = λ c left. let came = writes.2 c left in
-      begins_torn front came.0 c size writes.0 (lasting.each came.0 came.1) lasting.within came.2;
+  each = λ c left. let came = writes.1 c left in
+      begins_stays front came.0 c size (lasting.each came.0 came.1) lasting.within came.2;
 }
 
 pub lasts_behind : (base size more place : ℕ) (old new : List ℕ) (before after : List ℕ → Type 0) → size ≤ more
-    → WritesBehind size old new before after → Lasts base size before place → Lasts base more after place
+    → ChangesBehind size old new before after → Lasts base size before place → Lasts base more after place
 lasts_behind base size more place old new before after up writes lasting =
     (lasting.0, lasts_as base size more place old new lasting.0 before after up writes lasting.1)
 
 pub reopens_before : (base size more place new_base new_last new_size : ℕ) (told : List Told) (old new file : List ℕ)
     (before after outcomes : List ℕ → Type 0)
-    → size ≤ more → WritesBehind size old new before after
+    → size ≤ more → ChangesBehind size old new before after
     → Reopens base more after place new_base new_last new_size told file outcomes
     → Reopens base size before place new_base new_last new_size told file outcomes
 reopens_before base size more place new_base new_last new_size told old new file before after outcomes up writes opened = record {

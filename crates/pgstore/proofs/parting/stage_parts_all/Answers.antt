@@ -2,6 +2,7 @@ use Rattle.std.proofs.Common.{sym, subst, arith}
 use Rattle.sqlite.specs.State.{HasCleanDisk}
 use Rattle.pgtables.specs.Kept as stored
 use Rattle.pgrows.specs.Rows.{state}
+use Rattle.pgstore.specs.Parted.{AddsImages}
 use Rattle.pgstore.specs.Spelled.{IsStored}
 use Rattle.pgstore.specs.Acts.{CountsFrom}
 use Rattle.pgstore.proofs.Acting.{on_ok}
@@ -29,3 +30,12 @@ returns-in-Trees-clause-staged g c clean =
       counts = subst (λ (t : stored.Tables).
           CountsFrom t it.definitions it.changes c.args.end c.args.misses.now c.stage_parts_changes.new.misses) prepared.1 it.counts;
     })
+
+pub returns-in-Trees-clause-told : goal.returns-in-Trees-clause-told
+returns-in-Trees-clause-told g c clean =
+    let l = g.L.Ledger in
+    let was : HasCleanDisk (state g.S.Store c.in-Trees.rows) = omega (arith, c.stage_parts_changes.ensures.nothing.survives.clean, clean) in
+    let prepared = (rw c.in-Trees.is at c.prepare.ensures.prepares) was (c.is_sound.ensures.sound c.if-is_sound.true was).0 in
+    on_ok c.stage_parts_changes.result (c.stage_parts_changes.ensures.told clean) (λ told honest.
+    subst (λ (t : stored.Tables). AddsImages l.drafts l.is_wanting t (g.P.Parts.left c.args.parts.now) c.args.ledger.now
+    c.stage_parts_changes.new.ledger) prepared.1 (told honest))

@@ -3,6 +3,7 @@ use Rattle.sqlite.specs.Effect.{Database}
 use Rattle.sqlite.specs.State.{HasCleanDisk}
 use Rattle.pgtables.specs.Kept.{tables_in}
 use Rattle.pgrows.specs.Rows.{state}
+use Rattle.pgstore.specs.Parted.{AddsImages}
 use Rattle.pgstore.specs.Spelled.{IsStored}
 use Rattle.pgstore.proofs.Parted.{stages_parts}
 use Rattle.pgstore.proofs.Remembering.{none_known}
@@ -33,3 +34,13 @@ returns-clause-staged g c clean =
     stages_parts g.S.Store c.args.rows.now c.mark.new.self c.take_parts.new.rows c.keep.new.self (p.is_honest c.take_parts.new.parts)
     (p.left c.args.parts.now) c.args.end c.args.misses.now c.take_parts.new.misses marks c.take_parts.ensures.goes made
     (c.in_default-take_parts.ensures.made made marks.is_open) (c.in_default-keep.ensures.kept clean)
+
+pub returns-clause-told : goal.returns-clause-told
+returns-clause-told g c clean honest =
+    let l = g.L.Ledger in
+    let made : HasCleanDisk (state g.S.Store c.take_parts.new.rows) = omega (arith, c.keep.ensures.survives.clean, clean) in
+    let was : HasCleanDisk (state g.S.Store c.mark.new.self) = omega (arith, c.take_parts.ensures.goes.survives.clean, made) in
+    let marks = c.in_default.ensures.marked was in
+    subst (λ (d : Database). AddsImages l.drafts l.is_wanting (tables_in d.trees) (g.P.Parts.left c.args.parts.now)
+    c.args.ledger.now c.take_parts.new.ledger) marks.now_is
+    (c.in_default-take_parts.ensures.told made marks.is_open honest)

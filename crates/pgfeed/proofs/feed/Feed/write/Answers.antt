@@ -2,9 +2,9 @@ use Rattle.std.proofs.Common.{List, arith, refl, subst}
 use Rattle.pgledger.specs.Entries.{Entry, entry_of, messages_of}
 use Rattle.pgfeed.specs.declared.hearing.Hearing.{Hearing}
 use Rattle.pgfeed.specs.Hearing.{all_heard}
-use Rattle.pgfeed.specs.Next.{IsNext}
+use Rattle.pgfeed.specs.Next.{Adds, IsNext}
 use Rattle.pgfeed.proofs.Ending.{ends_same, timed}
-use Rattle.pgfeed.proofs.Following.{Adds, Writes, adds_piece, all_more, all_quiet, goes_end}
+use Rattle.pgfeed.proofs.Following.{Writes, adds_piece, all_more, all_quiet, goes_end}
 use Rattle.pgfeed.proofs.Following.{goes_nowhere, goes_on_by, goes_quiet}
 use Rattle.pgfeed.proofs.Following.{on_err, writes_line}
 use Rattle.pgfeed.proofs.feed.Feed.write.Goals as goal
