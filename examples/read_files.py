@@ -47,7 +47,7 @@ while True:
     at = at or (keep(*first_rows()) if os.path.exists(f"{feed}/base") else 0)
     names = [it for it in os.listdir(feed) if len(it) == 16 and int(it, 16) <= at]
     offset = offset if segment == (segment := max(names)) else 1024
-    told = json.loads(line) if len(line := read(offset, 256)) == 256 and line.strip(b"\0") else {}
+    told = json.loads(line) if len(line := read(offset, 256)) == 256 and 0 not in line else {}
     text = read(offset + 256, told.get("bytes", 0))
     end, is_repair = number(told.get("end", "0/0")), told.get("xid") == 2
     if not end or len(text) < told["bytes"] or is_repair and number(confirmed) < end:

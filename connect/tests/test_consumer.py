@@ -14,6 +14,7 @@ import uuid
 from collections.abc import Iterator
 from pathlib import Path
 from typing import Any
+from unittest import mock
 
 import feed_replay
 from feed_text import EPOCH, UNSENT, About, Line
@@ -186,6 +187,26 @@ class Reads(FeedCase):
 
         found = next(pgsub_feed.read(self.path, 0, follow=True, check=check))
         self.assertEqual((found.lsn, len(found.changes), len(asked)), (0x100, 2, 3))
+
+    def test_a_line_that_comes_last(self) -> None:
+        """Whatever stands behind the zeros of a commit's line isn't there yet."""
+        self.feed.commit(0x100, [insert("1", "a")])
+        before, size = self.feed.path.read_bytes(), self.feed.size
+        text = self.feed.text(0x200, [insert("2", "b"), insert("3", "c")])
+        lines = [bytes(256), text[:100] + bytes(156), text[:255] + b"\0", text[:256]]
+
+        def check() -> None:
+            if lines:
+                self.feed.path.write_bytes(before + lines.pop(0) + text[256:])
+
+        with mock.patch("pgsub_feed.reader.polling.PATIENCE", 0.0):
+            found = pgsub_feed.read(self.path, 0, follow=True, check=check)
+            self.assertEqual([next(found).lsn for _ in range(2)], [0x100, 0x200])
+        self.assertEqual(lines, [])
+        self.feed.path.write_bytes(before + text[:100] + bytes(156) + text[256:])
+        self.assertEqual([it.lsn for it in self.read()], [0x100])
+        os.truncate(self.feed.path, size)
+        self.assertEqual([it.lsn for it in self.read()], [0x100])
 
     def test_what_is_done_is_noted(self) -> None:
         for number in range(1, 4):

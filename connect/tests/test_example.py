@@ -2,6 +2,7 @@
 
 from __future__ import annotations
 
+import os
 import pickle
 import random
 import signal
@@ -102,6 +103,25 @@ class Reads(ExampleCase):
         self.feed.at = 0x300
         self.wait(self.start())
         self.assertEqual(len(self.kept()[1][STOCK.oid]), 2)
+
+    def test_a_line_that_comes_last(self) -> None:
+        """A long commit's own line is written behind its others, and may be seen in parts."""
+        make_base(self.path, P, [STOCK], [])
+        self.feed.commit(0x200, [insert("1", "a")])
+        before, size = self.feed.path.read_bytes(), self.feed.size
+        text = self.feed.text(0x300, [insert("2", "b"), insert("3", "c")])
+        self.feed.at, child = 0x200, self.start()
+        self.addCleanup(child.kill)
+        for line in (bytes(256), text[:100] + bytes(156), bytes(100) + text[100:256]):
+            self.feed.path.write_bytes(before + line + text[256:])
+            time.sleep(0.2)
+            self.assertEqual((child.poll(), self.kept()[0]), (None, 0x200))
+        os.truncate(self.feed.path, size)
+        self.feed.size, self.feed.told = size, {}
+        self.feed.commit(0x280, [insert("4", "d")])
+        self.wait(child)
+        found = self.kept()
+        self.assertEqual((found[0], [it["id"] for it in found[1][STOCK.oid]]), (0x280, ["1", "4"]))
 
     def test_a_repair_that_isnt_confirmed(self) -> None:
         make_base(self.path, P, [STOCK], [])

@@ -17,10 +17,11 @@ from collections.abc import Callable
 from typing import Any
 from unittest import mock
 
-from feed_text import About, Column, Line, entry_text, summed
+from feed_text import COMMIT_SIZE, About, Column, Line, entry_text, summed
 
 from pgsub_connect.commands import tables as tables_module, wait
 from pgsub_connect.commands.tables import Options
+from pgsub_connect.follow.feed import confirmed_above
 from pgsub_feed.errors import Damaged, Passing, Stopped, Unfit
 from pgsub_feed.interruption import never
 from pgsub_feed.program import Worker, stop_by_signals
@@ -157,23 +158,49 @@ class FollowingCase(FeedCase):
             wait.run(wait.Options(tables=self.into, lsn=lsn, within=50), never)
 
     def write(self, end: int, lines: list[Line], rng: random.Random) -> None:
-        """Writes a commit in pieces; sometimes it is cut off, and written again."""
+        """Writes a commit in pieces, sometimes its line last; sometimes it is cut off, and written
+        again."""
         prev = self.feed.at
         text = self.feed.text(end, lines)
         size = self.feed.size
         for _ in range(2):
-            at = rng.choice((0, 100, 300, len(text)))
-            self.feed.put(text[:at])
-            if rng.random() < 0.3:
-                time.sleep(0.002)
-            if rng.random() < 0.8:
-                self.feed.put(text[at:])
+            is_complete = rng.random() < 0.8
+            put = self.put_line_last if rng.random() < 0.5 else self.put_in_pieces
+            put(text, is_complete, rng)
+            if is_complete:
                 return
             os.truncate(self.feed.path, size)
             self.feed.size = size
         # (as of a program that was started anew, which has told nothing)
         self.feed.told = {}
         self.feed.put(entry_text(prev, end, lines, None, self.feed.told, size))
+
+    def put_in_pieces(self, text: bytes, is_complete: bool, rng: random.Random) -> None:
+        at = rng.choice((0, 100, 300, len(text)))
+        self.feed.put(text[:at])
+        pause(rng)
+        if is_complete:
+            self.feed.put(text[at:])
+
+    def put_line_last(self, text: bytes, is_complete: bool, rng: random.Random) -> None:
+        """(The line is seen in parts, too.)"""
+        start, parts = self.feed.size, [0, *sorted(rng.sample(range(1, COMMIT_SIZE), 2))]
+        body = range(COMMIT_SIZE, len(text), max(len(text) // 3, 1))
+        pieces = [(at, text[at : at + body.step]) for at in body]
+        ends = parts[1:] + [COMMIT_SIZE]
+        line = [(at, text[at:end]) for at, end in zip(parts, ends, strict=True)]
+        rng.shuffle(line)
+        for at, piece in pieces + (line if is_complete else line[:2]):
+            with open(self.feed.path, "r+b") as file:
+                file.seek(start + at)
+                file.write(piece)
+            pause(rng)
+        self.feed.size = start + len(text)
+
+
+def pause(rng: random.Random) -> None:
+    if rng.random() < 0.3:
+        time.sleep(0.002)
 
 
 class Following(FollowingCase):
@@ -291,6 +318,36 @@ class Following(FollowingCase):
         self.wait_for(0x200)
         self.assertEqual(self.end(signal.SIGTERM), 0)
         self.assertEqual(read(self.into)[1][0], Counter([(1, "a"), (2, "b"), (3, "c")]))
+
+    def test_a_line_that_comes_last(self) -> None:
+        """A program that was killed amid a long commit has left it without its line, or with a part
+        of that, until it is started again: that is a commit that isn't there yet."""
+        self.feed.commit(0x100, [insert("1", "a", of=KEYED)])
+        size, path = self.feed.size, self.feed.path
+        before = path.read_bytes()
+        text = self.feed.text(0x200, [insert("2", "b", of=KEYED), insert("3", "c", of=KEYED)])
+        once = dataclasses.replace(self.options, once=True)
+        for line in (bytes(256), text[:100] + bytes(156), bytes(100) + text[100:256]):
+            path.write_bytes(before + line + text[256:])
+            self.feed.confirm(0x150)
+            with logged(), mock.patch("pgsub_feed.reader.polling.PATIENCE", 0.0):
+                self.assertEqual(tables_module.run(once, never), 0)
+                wait.run(wait.Options(tables=self.into, lsn=0x150, within=5), never)
+                with self.assertRaisesRegex(Passing, "is at 0/100, and 0/200 wasn't reached"):
+                    wait.run(wait.Options(tables=self.into, lsn=0x200, within=0.1), never)
+                self.feed.confirm(0x200)
+                with self.assertRaisesRegex(Passing, "has reached 0/100, and 0/250 not yet"):
+                    tables_module.run(dataclasses.replace(once, at=0x250), never)
+            self.assertEqual(confirmed_above(str(self.path), 0x100), None)
+            self.assertEqual(read(self.into), (0x100, (Counter([(1, "a")]), Counter())))
+        self.start()
+        time.sleep(0.1)
+        os.truncate(path, size)
+        self.feed.size, self.feed.at, self.feed.told = size, 0x100, {}
+        self.feed.commit(0x180, [insert("4", "d", of=KEYED)])
+        self.wait_for(0x180)
+        self.assertEqual(self.end(signal.SIGTERM), 0)
+        self.assertEqual(read(self.into), (0x180, (Counter([(1, "a"), (4, "d")]), Counter())))
 
     def test_an_added_tables_commit_that_is_cut_off(self) -> None:
         """The filter was killed before the store had it: the table is added anew, at another

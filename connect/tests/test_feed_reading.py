@@ -10,6 +10,7 @@ from pathlib import Path
 from unittest import mock
 
 from feed_text import (
+    COMMIT_SIZE,
     SEGMENT_SIZE,
     UNSENT,
     About,
@@ -199,6 +200,140 @@ class Taking(Case):
         with open(self.file(), "ab") as file:
             file.write(bytes(4096))
         self.assertEqual(self.ends(), [0x100])
+
+
+class LineLast(Case):
+    """A long commit's lines are written first, piece after piece, and its own line last, into the
+    room that was left for it, which has zeros until then."""
+
+    def setUp(self) -> None:
+        super().setUp()
+        self.feed.commit(0x100, [insert("1", "a")])
+        self.size = self.feed.size
+        self.got = self.reader()
+        self.assertEqual(getattr(self.got.next(), "end", None), 0x100)
+
+    def text(self, end: int, count: int = 50) -> bytes:
+        """The text of a commit with some changes, also of another table."""
+        lines = [insert(str(it), "é" * it, of=table(2, "other")) for it in range(count)]
+        return self.feed.text(end, [insert("2", "b"), *lines])
+
+    def write(self, at: int, piece: bytes) -> None:
+        with open(self.feed.path, "r+b") as file:
+            file.seek(at)
+            file.write(piece)
+
+    def cut(self) -> None:
+        """(As where the commit is rejected, or the program is started again.)"""
+        os.truncate(self.feed.path, self.size)
+        self.feed.size, self.feed.at, self.feed.told = self.size, 0x100, {}
+
+    def check_nothing_is_there(self) -> None:
+        self.assertIsNone(self.got.next())
+        self.assertEqual(self.ends(), [0x100])
+
+    def check_next(self, end: int, changes: int) -> None:
+        commit = self.got.next()
+        assert commit
+        found = [it for it in self.got.parts(commit) if isinstance(it, Change)]
+        self.assertEqual((commit.end, len(found)), (end, changes))
+        self.assertEqual(self.ends(), [0x100, end])
+        self.assertIsNone(self.got.next())
+
+    def test_a_whole_commit_follows(self) -> None:
+        text = self.text(0x200)
+        for at in range(COMMIT_SIZE, len(text), 500):
+            self.write(self.size + at, text[at : at + 500])
+            self.check_nothing_is_there()
+        self.write(self.size, text[:COMMIT_SIZE])
+        self.check_next(0x200, 51)
+
+    def test_a_part_of_the_line(self) -> None:
+        """Wherever its zeros are: at its end, before it, amid it, or the line feed alone."""
+        text = self.text(0x200)
+        line = text[:COMMIT_SIZE]
+        self.write(self.size + COMMIT_SIZE, text[COMMIT_SIZE:])
+        for first, end in ((1, 256), (40, 256), (255, 256), (0, 1), (0, 128), (0, 255), (64, 65)):
+            self.write(self.size, line[:first] + bytes(end - first) + line[end:])
+            with self.subTest(first=first, end=end):
+                self.check_nothing_is_there()
+        self.write(self.size, line)
+        self.check_next(0x200, 51)
+
+    def test_it_is_cut_off_and_another_one_follows(self) -> None:
+        for rest in (bytes(300), self.text(0x200)[COMMIT_SIZE:]):
+            self.cut()
+            self.write(self.size + COMMIT_SIZE, rest)
+            self.check_nothing_is_there()
+        self.write(self.size, bytes(100) + self.text(0x200)[100:COMMIT_SIZE])
+        self.check_nothing_is_there()
+        self.cut()
+        self.check_nothing_is_there()
+        # (another definition stands where one stood)
+        self.feed.commit(
+            0x180, [insert("7", "x", "y", of=table(columns=(ID, NAME, Column("z", 25))))]
+        )
+        self.check_next(0x180, 1)
+
+    def test_a_long_one_follows_one_that_is_cut_off(self) -> None:
+        self.write(self.size + COMMIT_SIZE, self.text(0x200, 90)[COMMIT_SIZE:])
+        self.check_nothing_is_there()
+        self.cut()
+        text = self.text(0x280, 7)
+        self.write(self.size + COMMIT_SIZE, text[COMMIT_SIZE:])
+        self.check_nothing_is_there()
+        self.write(self.size, text[:COMMIT_SIZE])
+        self.check_next(0x280, 8)
+
+    def test_it_begins_a_segment(self) -> None:
+        self.feed.end()
+        self.size = self.feed.size
+        text = self.text(0x200)
+        self.write(self.size + COMMIT_SIZE, text[COMMIT_SIZE:])
+        self.check_nothing_is_there()
+        self.assertEqual(self.got.cursor(), commits.Cursor(0x100, SEGMENT_SIZE, 0x100))
+        # (where it is rejected the segment may go with it)
+        self.file(0x100).unlink()
+        self.check_nothing_is_there()
+        self.feed.at = 0x100
+        self.feed.begin()
+        self.write(self.size, text)
+        self.check_next(0x200, 51)
+
+    def test_zeros_in_a_segment_that_has_ended(self) -> None:
+        """There nothing comes any more: what has lost a part of a line is spoiled."""
+        self.feed.commit(0x200, [insert("2", "b")])
+        self.feed.end()
+        self.feed.commit(0x300)
+        path = self.file()
+        text = path.read_bytes()
+        for zeros in (self.size + 40, self.size + COMMIT_SIZE - 1):
+            path.write_bytes(text[:zeros] + b"\0" + text[zeros + 1 :])
+            with self.subTest(zeros=zeros):
+                for reader in (self.reader(), self.reader(0x100)):
+                    with self.assertRaisesRegex(Damaged, "reading 3 CommitLine"):
+                        [reader.next() for _ in range(3)]
+        # (a closing line tells no more than the name of the next segment)
+        for zeros in (COMMIT_SIZE, 10):
+            path.write_bytes(text[:-zeros] + bytes(zeros))
+            self.assertEqual(self.ends(), [0x100, 0x200, 0x300])
+
+    def test_a_segment_that_ends_while_it_is_looked_at(self) -> None:
+        """A part of a line was seen, and by the time the next segment is the line is there."""
+        text = self.text(0x200)
+        self.write(self.size + COMMIT_SIZE, text[COMMIT_SIZE:])
+        self.write(self.size, text[:100])
+        listed = self.got.listing.segments
+
+        def goes_on() -> list[tuple[int, str]]:
+            if self.feed.at == 0x200 and not self.feed.is_empty:
+                self.write(self.size, text[:COMMIT_SIZE])
+                self.feed.end()
+            return listed()
+
+        with mock.patch.object(self.got.listing, "segments", goes_on):
+            found = [getattr(self.got.next(), "end", None) for _ in range(2)]
+        self.assertIn(0x200, found)
 
 
 class Cutting(Case):

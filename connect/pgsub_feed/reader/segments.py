@@ -6,6 +6,9 @@ commit whose bytes aren't all there yet is waited for; none is passed on whose b
 checksum that its line tells, nor one whose changes name a definition in such a commit. Where the
 feed was written anew from some commit on, the reader goes on from its LSN.
 
+Of a long commit the lines behind its own are written first, which may be cut off again, and other
+commits written there. So as long as its own line has a zero byte nothing behind it is read.
+
 A crash may cut off what isn't confirmed. The server sends its commits again, each with the same
 end; but the connector's own, of rows that are added or repaired, end at an LSN that doesn't come
 again. So these are taken once they are confirmed.
@@ -68,16 +71,26 @@ class Segment:
         return os.lseek(self.file, 0, os.SEEK_END)
 
     def commit(self, offset: int) -> Commit | Closing | None:
-        """The line of a commit or of the end at an offset; None where it isn't there yet."""
+        """The line of a commit or of the end at an offset; None where it isn't there yet: some of it
+        is zeros, or missing, whatever stands behind it."""
         line = self.read(offset, COMMIT_SIZE)
-        # (a line of zeros is one that a power cut has left)
-        if len(line) < COMMIT_SIZE or not line.strip(b"\0"):
+        # (the line of a long commit is written last; one of zeros may be what a power cut has left)
+        if len(line) < COMMIT_SIZE or b"\0" in line:
             return None
         try:
             return read_commit(line)
         except ValueError:
-            told = f"this is no line of a commit: {shown(line)}"
-            raise Damaged(COMMIT_LINE, self.path, offset, told) from None
+            raise self.no_line(line, offset) from None
+
+    def no_line(self, line: bytes, offset: int) -> Damaged:
+        told = f"this is no line of a commit: {shown(line)}"
+        return Damaged(COMMIT_LINE, self.path, offset, told)
+
+    def torn(self, offset: int) -> bytes | None:
+        """The line at an offset, where a part of it is zeros."""
+        line = self.read(offset, COMMIT_SIZE)
+        is_torn = len(line) == COMMIT_SIZE and b"\0" in line and line.strip(b"\0")
+        return line if is_torn else None
 
     def check(self, commit: Commit, offset: int) -> list[bytes]:
         """Rejects a commit whose bytes aren't as written. Returns them, unless there are many."""
@@ -277,6 +290,8 @@ class Reader:
         if closing and closing.last != self.last:
             text = f"the segment says that it ends at {lsn_text(closing.last)}, and its last commit at {lsn_text(self.last)}"
             raise Damaged(ORDER, segment.path, self.offset, text)
+        if not closing and segment.torn(self.offset):
+            self.check_is_last(segment)
         if self.last != segment.base and (name := self.named(self.last)):
             return self.open(self.last, name) is not None
         # (it is looked for by its name: there may be many, and this is asked again and again)
@@ -288,6 +303,13 @@ class Reader:
                 f" {lsn_text(base)}: commits are missing. Begin anew from an export"
             )
         return False
+
+    def check_is_last(self, segment: Segment) -> None:
+        """Rejects a part of a line in a segment behind which another one was begun: no line of it is
+        written any more. (This one may have been, before that.)"""
+        there = self.listing.segments()
+        if there and there[-1][0] > segment.base and (line := segment.torn(self.offset)):
+            raise segment.no_line(line, self.offset)
 
     def named(self, base: int) -> str | None:
         """The name of the segment that begins there, None where there is none."""
