@@ -3,11 +3,16 @@
 import dataclasses
 import datetime
 import decimal
+import operator
+import threading
 import uuid
-from collections.abc import Callable, Iterator, Mapping
+from bisect import bisect
+from collections.abc import Callable, Iterator, Mapping, Sequence
+from typing import Any, overload
 
 from .reader import commits
-from .reader.commits import XID, Cell, Cells, Message, Unsent
+from .reader.blocks import Blocks
+from .reader.commits import XID, Cell, Cells, Message, TableLine, Unsent
 from .relation import BaseType, Column, Relation
 from .tables.values import BOOL, BYTEA, FLOAT4, FLOAT8, KINDS, NUMERIC, TEXTS, read_bytea
 from .texts import lsn_text
@@ -156,6 +161,9 @@ class Commit:
     commit before it ends. `tables` are the definitions of what it changes: rows from before that
     have another shape keep their values by the names of the columns, and a new one is null.
 
+    `changes` are a tuple, or, of a long commit, `LongChanges`, which are read from the feed as they
+    are asked for.
+
     `is_base`: it has rows from before the first commit, each table truncated before its first ones.
     They are complete with the last such commit: those before it have the LSN 0.
 
@@ -167,7 +175,7 @@ class Commit:
     xid: int | None
     time: datetime.datetime | None
     tables: tuple[Relation, ...]
-    changes: tuple[Change, ...]
+    changes: Sequence[Change]
     is_base: bool = False
     messages: tuple[Message, ...] = ()
 
@@ -197,3 +205,62 @@ def change_of(part: commits.Change | commits.Missed, table: Relation) -> Change:
     if after is not None:
         return Insert(table, after)
     return Truncate(table) if before is None else Delete(table, before)
+
+
+class LongChanges(Sequence[Change]):
+    """The changes of a long commit, of which a part at a time is in memory. Whenever they are asked
+    for they are read from the feed's file, which stays open for them, also where it is removed; a
+    Passing says that the feed was altered meanwhile, as after a crash. Pickled they are a tuple."""
+
+    def __init__(
+        self, blocks: Blocks, tables: Mapping[Relation, Relation], ends: list[int]
+    ) -> None:
+        # the chosen tables by their definitions, and how many changes there are up to each block's
+        # end
+        self.blocks, self.tables, self.ends = blocks, tables, ends
+        # the block that was read last
+        self.lock, self.last = threading.Lock(), (-1, list[Change]())
+
+    def __len__(self) -> int:
+        return self.ends[-1]
+
+    def __iter__(self) -> Iterator[Change]:
+        for number in range(len(self.ends)):
+            yield from self.block(number)
+
+    @overload
+    def __getitem__(self, at: int) -> Change:
+        ...
+
+    @overload
+    def __getitem__(self, at: slice) -> tuple[Change, ...]:
+        ...
+
+    def __getitem__(self, at: int | slice) -> Change | tuple[Change, ...]:
+        if isinstance(at, slice):
+            return tuple(self[it] for it in range(*at.indices(len(self))))
+        place = range(len(self))[at]
+        number = bisect(self.ends, place)
+        return self.block(number)[place - self.ends[number]]
+
+    def __eq__(self, other: object) -> bool:
+        if not isinstance(other, Sequence) or len(self) != len(other):
+            return False
+        return all(map(operator.eq, self, other))
+
+    def __reduce__(self) -> tuple[Any, ...]:
+        return tuple, (list(self),)
+
+    def block(self, number: int) -> list[Change]:
+        with self.lock:
+            if self.last[0] != number:
+                self.last = number, list(self.read(number))
+            return self.last[1]
+
+    def read(self, number: int) -> Iterator[Change]:
+        tables = dict[int, Relation | None]()
+        for part in self.blocks.block(number):
+            if isinstance(part, TableLine):
+                tables[part.relation.oid] = self.tables.get(part.relation)
+            elif not isinstance(part, Message) and (table := tables[part.relation.oid]):
+                yield change_of(part, table)

@@ -4,18 +4,20 @@ import contextlib
 import dataclasses
 import datetime
 import os
-from collections.abc import Iterable, Iterator
+from collections.abc import Iterable, Iterator, Sequence
 
-from .changes import Change, Commit, Truncate, change_of
+from .changes import Change, Commit, LongChanges, Truncate, change_of
 from .column_types import FeedTypes, KnownTypes
 from .errors import Damaged, UsageError
 from .interruption import Check, never
 from .pipe.following import SCHEME, Remote
 from .reader import commits
+from .reader.blocks import LONG, Blocks, blocks_of
 from .reader.commits import Message
 from .reader.folder import noted_of
 from .reader.following import Chosen
 from .reader.polling import Poll
+from .reader.segments import Reader
 from .reader.whole import Whole
 from .relation import Relation
 from .sinks.first_rows import exported
@@ -41,6 +43,9 @@ def read(
     After 0, of who has no rows, it begins with those from before the first commit: of a `base`, an
     export with texts, or beside the feed. So it does after None, or with all commits that are there
     where it has no such rows.
+
+    The changes of a long commit, of over 8 MiB, are read from the feed as they are asked for, so
+    that none has to fit the memory; of a feed elsewhere from a temporary file (TMPDIR).
 
     The `types` of a change's table are what the server's catalog has said of it: names, labels, keys
     and what is never null. A commit with a new definition is given once the follower has looked.
@@ -99,6 +104,8 @@ class Build:
         self.chosen, self.cleared = Chosen(self.names), set[int]()
 
     def __call__(self, commit: commits.Commit, parts: Iterable[commits.Part]) -> Commit:
+        if isinstance(parts, Blocks):
+            return self.long(commit, parts)
         tables, changes = dict[int, Relation](), list[Change]()
         told, messages = dict[Relation, None](), list[Message]()
         for part in parts:
@@ -112,12 +119,26 @@ class Build:
                 changes += self.clear(commit, table)
             else:
                 changes.append(change_of(part, tables[part.relation.oid]))
-        time = None
-        if commit.ts_us is not None:
-            time = EPOCH + datetime.timedelta(microseconds=commit.ts_us)
-        is_base = commit.base is not None
-        about = commit.end, commit.prev, commit.xid, time
-        return Commit(*about, tuple(told), tuple(changes), is_base, tuple(messages))
+        return made(commit, told, tuple(changes), messages)
+
+    def long(self, commit: commits.Commit, blocks: Blocks) -> Commit:
+        """The same of a long commit. All of it is read, and nothing of its changes is kept."""
+        tables, ends = dict[Relation, Relation](), list[int]()
+        is_chosen, messages, count = dict[int, bool](), list[Message](), 0
+        for parts in blocks.all():
+            for part in parts:
+                if isinstance(part, Message):
+                    messages.append(part)
+                elif isinstance(part, commits.TableLine):
+                    relation = part.relation
+                    if has := self.chosen(relation):
+                        tables[relation] = self.typed(relation, commit)
+                    is_chosen[relation.oid] = has
+                else:
+                    count += is_chosen[part.relation.oid]
+            ends.append(count)
+        told = dict.fromkeys(tables.values())
+        return made(commit, told, LongChanges(blocks, tables, ends), messages)
 
     def typed(self, relation: Relation, commit: commits.Commit) -> Relation:
         """A definition with what the catalog said of it."""
@@ -137,11 +158,31 @@ class Build:
         return [Truncate(relation)]
 
 
+def made(
+    commit: commits.Commit,
+    tables: Iterable[Relation],
+    changes: Sequence[Change],
+    messages: Iterable[Message],
+) -> Commit:
+    time = None
+    if commit.ts_us is not None:
+        time = EPOCH + datetime.timedelta(microseconds=commit.ts_us)
+    about = commit.end, commit.prev, commit.xid, time
+    return Commit(*about, tuple(tables), changes, commit.base is not None, tuple(messages))
+
+
+def parts_of(reader: Reader, commit: commits.Commit) -> Iterable[commits.Part]:
+    """What the commit has that the reader has taken last: of a long one in blocks."""
+    if commit.bytes > LONG:
+        return blocks_of(reader, commit)
+    return reader.parts(commit)
+
+
 def whole(poll: Poll, build: Build) -> Iterator[Commit]:
     """Commit after commit."""
     for commit in poll.commits():
         try:
-            found = build(commit, poll.reader.parts(commit))
+            found = build(commit, parts_of(poll.reader, commit))
         except Damaged as damaged:
             poll.try_again(damaged, commit, commit.prev)
         else:

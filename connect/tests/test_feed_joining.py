@@ -22,7 +22,7 @@ from pgsub_feed.tables.applier import Applier
 from pgsub_feed.tables.table import Kept
 from pgsub_feed.tables.applier import Joined
 
-from .feeds import delete, insert, table, update
+from .feeds import delete, insert, table, truncate, update
 from .test_feed_tables import TablesCase
 from .vectors import logged
 
@@ -142,18 +142,25 @@ class Steps(TablesCase):
             nonlocal most
             PUT(applier, change)
             waiting = (it for it in applier.waiting.values() if isinstance(it, Joined))
-            most = max(most, sum(len(it.rows) for it in waiting))
+            rows = (after for it in waiting for _, after in it.rows.values())
+            most = max(most, sum(after is not None and len(after[1] or "") > 1 for after in rows))
 
         text = "x" * 10000
-        self.take(*(insert(str(it), text) for it in range(100)))
-        with mock.patch.object(Applier, "put", put), mock.patch.object(
-            applier_module, "ROOM", 1 << 16
-        ):
-            self.run_it()
-        self.assertEqual(
-            self.rows("SELECT count(*), sum(length(name)) FROM stock"), [(100, 10**6)]
-        )
-        self.assertLess(most, 10)
+        large = [insert(str(it), text) for it in range(100)]
+        # (also where a commit's changes are small on an average)
+        small = [insert(str(it), "x") for it in range(1000, 4000)]
+        for lines, rows, size in ((large, 100, 10**6), (small + large, 3100, 10**6 + 3000)):
+            with self.subTest(rows=rows):
+                self.take(truncate(), *lines)
+                most = 0
+                with mock.patch.object(Applier, "put", put), mock.patch.object(
+                    applier_module, "ROOM", 1 << 16
+                ):
+                    self.run_it()
+                self.assertEqual(
+                    self.rows("SELECT count(*), sum(length(name)) FROM stock"), [(rows, size)]
+                )
+                self.assertLess(most, 10)
 
     def test_what_another_program_removed_is_still_found_out(self) -> None:
         self.take(insert("1", "a"), insert("2", "b"))

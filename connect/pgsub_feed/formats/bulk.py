@@ -7,7 +7,9 @@ Whatever is sent again, or late, has a version that isn't above the one that is 
 rejected with the status 409, which loses nothing.
 """
 
+import contextlib
 import shlex
+import sqlite3
 import subprocess
 import sys
 import time
@@ -17,6 +19,7 @@ from .. import log
 from ..errors import Passing, Unfit, UsageError
 from ..interruption import Check, never, undone_by
 from ..known_tables import KnownTables
+from ..reader.blocks import LONG
 from ..reader.commits import Change, Commit, Missed
 from ..reader.following import Chosen
 from ..reader.segments import Reader
@@ -64,9 +67,53 @@ class Command:
         return f"has ended with status {child.returncode}" if child.returncode else ""
 
 
+# What has the documents of a long commit, by the index and the id; `n` rises with their changes.
+ROOM = "CREATE TABLE found (n INTEGER PRIMARY KEY AUTOINCREMENT, place TEXT, id TEXT, row BLOB, UNIQUE (place, id))"
+HAS = "SELECT 1 FROM found WHERE place = ? AND id = ? AND row NOT NULL"
+PUT = "INSERT OR REPLACE INTO found (place, id, row) VALUES (?, ?, ?)"
 # The versions are positive, and have 64 bits with a sign; an id has at most so many bytes.
 MOST_VERSION, MOST_ID = (1 << 63) - 1, 512
-Documents = dict[tuple[str, str], Row]
+
+
+class Documents:
+    """What a commit leaves of documents, None of one that it removes, in the order of their last
+    changes. Those of a long commit are in a file of SQLite's without a name."""
+
+    def __init__(self, is_long: bool) -> None:
+        self.found = dict[tuple[str, str], Row]()
+        self.db = sqlite3.connect("", isolation_level=None) if is_long else None
+        if self.db:
+            self.db.execute(ROOM)
+            self.db.execute("BEGIN")
+
+    def put(self, index: str, row_id: str, row: Row) -> bool:
+        """Notes what a change leaves of a document. Returns whether one before has left some."""
+        if self.db:
+            key = index, row_id
+            was = self.db.execute(HAS, key).fetchone()
+            text = None if row is None else json_line(row)
+            self.db.execute(PUT, (*key, text))
+            return was is not None
+        other = self.found.pop((index, row_id), None)
+        self.found[index, row_id] = row
+        return other is not None
+
+    def forget(self, index: str) -> None:
+        """Forgets the documents of an index."""
+        if self.db:
+            self.db.execute("DELETE FROM found WHERE place = ?", (index,))
+        for it in [it for it in self.found if it[0] == index]:
+            del self.found[it]
+
+    def lines(self) -> Iterator[tuple[str, str, bytes | None]]:
+        if self.db:
+            yield from self.db.execute("SELECT place, id, row FROM found ORDER BY n")
+        for (index, row_id), row in self.found.items():
+            yield index, row_id, None if row is None else json_line(row)
+
+    def close(self) -> None:
+        if self.db:
+            self.db.close()
 
 
 class Bulk(Objects):
@@ -96,25 +143,25 @@ class Bulk(Objects):
         if commit.end > MOST_VERSION:
             raise Unfit(f"{commit.text()}: the LSN is above the greatest version of a document")
         self.found.clear()
-        left: Documents = {}
-        for it in self.chosen.events(reader.parts(commit)):
-            if isinstance(it, Missed):
-                text = "a change that found no row is left out, and any later one"
-                self.told.warning("x", f"{commit.text()}: {text}")
-            elif isinstance(it, Change) and it.op == "t":
-                self.truncate(commit, it.relation, left)
-            elif isinstance(it, Change):
-                self.change(commit, it, left)
-        for (index, row_id), row in left.items():
-            about = {
-                "_index": index,
-                "_id": row_id,
-                "version": commit.end,
-                "version_type": "external",
-            }
-            yield json_line({"delete" if row is None else "index": about})
-            if row is not None:
-                yield json_line(row)
+        with contextlib.closing(Documents(commit.bytes > LONG)) as left:
+            for it in self.chosen.events(reader.parts(commit)):
+                if isinstance(it, Missed):
+                    text = "a change that found no row is left out, and any later one"
+                    self.told.warning("x", f"{commit.text()}: {text}")
+                elif isinstance(it, Change) and it.op == "t":
+                    self.truncate(commit, it.relation, left)
+                elif isinstance(it, Change):
+                    self.change(commit, it, left)
+            for index, row_id, line in left.lines():
+                about = {
+                    "_index": index,
+                    "_id": row_id,
+                    "version": commit.end,
+                    "version_type": "external",
+                }
+                yield json_line({"delete" if line is None else "index": about})
+                if line is not None:
+                    yield line
 
     def key(self, commit: Commit, relation: Relation) -> list[int]:
         """The columns by which a table's documents are named; none where it is left out."""
@@ -177,12 +224,11 @@ class Bulk(Objects):
                     text = f"{commit.text()}: {relation.text()} has a key of more than {MOST_ID} bytes, which no document's id has"
                     raise Unfit(text)
                 # (the last line of a document is where its last change is)
-                other = left.pop((index, row_id), None)
-                left[index, row_id] = row
-                is_taken = row is not None and other is not None
+                had = left.put(index, row_id, row)
+                is_taken = row is not None and had
                 if not is_sure and (is_taken or any(cells[at] is None for at in key)):
                     self.give_up(commit, relation, "rows have null in the key, or equal values")
-                    self.forget(index, left)
+                    left.forget(index)
                     return
 
     def truncate(self, commit: Commit, relation: Relation, left: Documents) -> None:
@@ -195,8 +241,4 @@ class Bulk(Objects):
                 f"{commit.text()} truncates {relation.text()}, which no line of a bulk request says: delete all documents of the index"
                 f" {index}, and go on with --from {lsn_text(commit.prev)} --truncated {commit.text()}"
             )
-        self.forget(index, left)
-
-    def forget(self, index: str, left: Documents) -> None:
-        for it in [it for it in left if it[0] == index]:
-            del left[it]
+        left.forget(index)

@@ -6,6 +6,7 @@ import json
 import os
 import shlex
 import subprocess
+import tempfile
 import time
 import urllib.parse
 from collections.abc import Callable, Iterable, Iterator
@@ -16,6 +17,7 @@ from ..column_types import KnownTypes
 from ..interruption import Check, rest
 from ..json_texts import lsn_of, whole_of
 from ..reader.base import sections_of
+from ..reader.blocks import LONG, Blocks, Lasting
 from ..reader.commits import Closing, Commit, Head, Part
 from ..reader.lines import (
     Decoder,
@@ -151,8 +153,7 @@ class Remote(Generic[Read]):
             else:
                 is_base = line.startswith(b'{"base"')
                 commit = self.base(line) if is_base else self.commit(line)
-                parts = self.rows(pipes, commit) if is_base else self.parts(pipes, commit)
-                yield self.read(commit, parts)
+                yield self.read(commit, self.read_parts(pipes, commit, is_base))
                 self.at, self.wrong, self.delay = commit.end, None, FIRST_DELAY
                 pipes.put(f"{lsn_text(commit.end)}\n".encode())
 
@@ -211,6 +212,13 @@ class Remote(Generic[Read]):
             raise self.damaged(errors.ORDER, told)
         return Commit(ends[1], 0, counts[0], counts[1], ends[0], base=counts[2])
 
+    def read_parts(self, pipes: Pipes, commit: Commit, is_base: bool) -> Iterable[Part]:
+        if is_base:
+            return self.rows(pipes, commit)
+        if commit.bytes > LONG:
+            return self.blocks(pipes, commit)
+        return self.parts(pipes, commit)
+
     def rows(self, pipes: Pipes, commit: Commit) -> Iterator[Part]:
         lines = b"".join(pipes.pieces(commit.bytes)).splitlines(keepends=True)
         n = commit.base or 0
@@ -227,12 +235,29 @@ class Remote(Generic[Read]):
         )
         at = commit.bytes
         # (nothing is made of a commit before all of it was read)
-        pieces = summed(
-            commit, pipes.pieces(at), lambda told: self.damaged(errors.CHECKSUM, told, at)
-        )
+        pieces = self.summed(pipes, commit)
         for lines in whole_lines(pieces, lambda: self.damaged(errors.COUNTS, told, at)):
             yield from decoder.read(lines)
         decoder.finish()
+
+    def summed(self, pipes: Pipes, commit: Commit) -> Iterator[bytes]:
+        """The bytes of a commit, some at a time. Behind the last ones it is looked whether all are
+        as they were written."""
+        at = commit.bytes
+        return summed(
+            commit, pipes.pieces(at), lambda told: self.damaged(errors.CHECKSUM, told, at)
+        )
+
+    def blocks(self, pipes: Pipes, commit: Commit) -> Blocks:
+        """Those of a long commit, which goes to a file without a name first."""
+        with errors.told_of(tempfile.gettempdir()), tempfile.TemporaryFile() as file:
+            for piece in self.summed(pipes, commit):
+                file.write(piece)
+            file.flush()
+            there = os.dup(file.fileno())
+        decoder = Lasting()
+        decoder.places.update(self.decoder.places)
+        return Blocks(commit, there, 0, self.url, decoder, lambda at: None)
 
     def damaged(self, number: int, what: str, at: int = 0) -> errors.Damaged:
         return errors.Damaged(number, self.url, at, what)

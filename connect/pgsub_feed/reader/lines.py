@@ -215,6 +215,10 @@ class Decoder:
         self.described: dict[int, TableLine] = {}
         self.n = self.messages = self.offset = 0
 
+    def go_on(self, offset: int, changes: int, messages: int) -> None:
+        """Goes on at a line at an offset of the commit, behind so many changes and messages."""
+        self.offset, self.n, self.messages = offset, changes, messages
+
     def finish(self) -> None:
         if self.n != self.commit.changes:
             told = f"the commit has {self.n} changes, and its line says {self.commit.changes}"

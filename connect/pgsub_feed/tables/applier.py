@@ -23,6 +23,8 @@ from .values import Value
 
 # How many changes of one kind are made at once, and how many rows wait at most.
 MOST, MOST_ROWS = 1000, 20000
+# How many bytes the line of a change has beside its values, about.
+AROUND = 60
 
 
 class Waiting(Protocol):
@@ -131,6 +133,12 @@ class Joined:
 ROOM = 32 << 20
 
 
+def size_of(change: Change) -> int:
+    """How many bytes a change has, about, in a commit's lines."""
+    rows = change.before or (), change.after or ()
+    return AROUND + sum(len(it or "null") + 3 for row in rows for it in row)
+
+
 class Applier:
     """Makes changes in the open transaction, those of one kind to one table at once.
 
@@ -171,7 +179,8 @@ class Applier:
             self.flush()
             self.forget()
         self.at, self.is_repair = commit.end, is_repair
-        self.each = commit.bytes // max(commit.changes, 1)
+        # (of a long one by themselves: those of its rows that come together may all be large)
+        self.each = 0 if commit.bytes > ROOM else commit.bytes // max(commit.changes, 1)
         self.truncated.clear()
         self.was_empty.clear()
         for part in parts:
@@ -221,7 +230,7 @@ class Applier:
             if not waiting.add(change):
                 del self.waiting[oid]
                 self.make_alone(change)
-        self.bytes += self.each
+        self.bytes += self.each or size_of(change)
         if self.bytes > ROOM:
             self.flush()
 

@@ -16,6 +16,7 @@ from ..files import OF_FILE, meant, own_name, remove, remove_files, sync_folder
 from ..interruption import Check
 from ..known_tables import KnownTables
 from ..reader.base import base_of_feed
+from ..reader.blocks import parts_backwards
 from ..reader.commits import Change, Commit, Cursor, Message, Missed, Part, TableLine
 from ..reader.folder import Noted, segments
 from ..reader.following import Following, Read, Reading
@@ -98,7 +99,7 @@ def walk(folder: str, rows: Rows, at: int, check: Check) -> None:
             reader.go_to(cursor)
             if reader.next() != commit:
                 raise Unfit(f"{folder}: the commit that ends at {commit.text()} is gone meanwhile")
-            applier.apply(commit, turned(rows, commit, list(reader.parts(commit))))
+            applier.apply(commit, turned(rows, commit, parts_backwards(reader, commit)))
         settle(rows, way)
     except Lost as lost:
         raise Lost(f"{lost}. {forward(way, at)}") from lost
@@ -113,10 +114,10 @@ def forward(way: Way, at: int) -> str:
     return f"Go forward to there: make a new file by --into, {base}"
 
 
-def turned(rows: Rows, commit: Commit, parts: list[Part]) -> Iterator[Part]:
-    """What takes a commit back: its changes turned round, the last one first."""
+def turned(rows: Rows, commit: Commit, parts: Iterable[Part]) -> Iterator[Part]:
+    """What takes a commit back, whose parts come last one first: its changes turned round."""
     described: dict[int, Relation] = {}
-    for part in reversed(parts):
+    for part in parts:
         if isinstance(part, (Message, TableLine)):
             continue
         relation = part.relation
