@@ -77,6 +77,13 @@ class Retaining(FeedCase):
             self.left(Limits(most_bytes=0, oldest=0), 0x300), ([0x200, 0x300, 0x400, 0x500], set())
         )
 
+    def test_a_commit_that_isnt_there_yet(self) -> None:
+        """The lines of a long one are in the last segment, which stays, before its own line is."""
+        self.feed.put(bytes(256) + self.feed.text(0x600, [insert("1", "x" * 4000)])[256:])
+        self.read(one=0x500)
+        self.assertEqual(feed_bytes(str(self.path)), 5 * SIZE + self.feed.size)
+        self.assertEqual(self.left(Limits(most_bytes=0, oldest=0)), ([0x500], set()))
+
     def test_a_reader_without_an_lsn(self) -> None:
         self.read(one=0x500)
         (self.path / "readers/one").write_text("x")
