@@ -11,6 +11,7 @@ import sqlite3
 import tracemalloc
 from collections.abc import Callable, Iterator
 from contextlib import closing
+from types import SimpleNamespace
 from typing import Any
 from unittest import mock
 
@@ -23,8 +24,10 @@ from pgsub_connect.commands.tables import Options
 from pgsub_feed import Commit, Damaged, Insert, Passing
 from pgsub_feed.changes import LongChanges
 from pgsub_feed.formats.bulk import Bulk
-from pgsub_feed.formats.lines import ByName, Lines
+from pgsub_feed.column_types import KnownTypes
+from pgsub_feed.formats.lines import ByName, Lines, Told as Tellings
 from pgsub_feed.interruption import never
+from pgsub_feed.pipe.following import Remote
 from pgsub_feed.reader.blocks import parts_backwards
 from pgsub_feed.reader.commits import Change, Part, TableLine
 from pgsub_feed.reader.following import Chosen
@@ -152,9 +155,38 @@ class Read(PipeCase):
         at_random(self.feed, random.Random(6))
         self.check_same(*self.both())
         with mock.patch("pgsub_feed.reader.lines.MOST_DEFINITIONS", 2):
-            for commits in (pgsub_feed.read(self.path, 0), pgsub_feed.read(self.url, 0)):
-                found = list(commits)
-                self.assertEqual(list(found[1].changes), list(found[1].changes))
+            found = list(pgsub_feed.read(self.path, 0))
+            self.assertEqual(list(found[1].changes), list(found[1].changes))
+
+
+class Elsewhere(FeedCase):
+    def test_definitions_are_forgotten_as_they_are_told(self) -> None:
+        """Where there are too many, those at the feed take it that they were."""
+        many = [table(it, f"t{it}") for it in range(3, 7)]
+        self.feed.commit(0x100, [insert(str(it), "a" * 50, of=many[it % 4]) for it in range(1000)])
+        for end in (0x200, 0x300, 0x400):
+            self.feed.commit(end, [insert("1", "b"), insert("1", "b", of=many[0])])
+        smaller(self)
+        for it in ("reader", "formats"):
+            patched = mock.patch(f"pgsub_feed.{it}.lines.MOST_DEFINITIONS", 4)
+            patched.start()
+            self.addCleanup(patched.stop)
+        about = "ssh://h/feed", 0, False, None, never
+        remote, told = Remote(*about, lambda commit, parts: list(parts), KnownTypes()), Tellings()
+        with closing(Reader(str(self.path), 0)) as reader:
+            pipes: Any = SimpleNamespace(pieces=lambda size: iter([self.content(reader, size)]))
+            while commit := reader.next():
+                told.begin()
+                for at, line in reader.definitions(commit):
+                    if text := told.add(at, line):
+                        remote.take_definition(text)
+                found = list(remote.read_parts(pipes, commit, False))
+                self.assertEqual(without_tables(found), without_tables([*reader.parts(commit)]))
+
+    @staticmethod
+    def content(reader: Reader, size: int) -> bytes:
+        assert reader.segment
+        return reader.segment.read(reader.body, size)
 
 
 class Backwards(FeedCase):

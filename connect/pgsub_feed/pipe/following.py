@@ -257,6 +257,8 @@ class Remote(Generic[Read]):
             there = os.dup(file.fileno())
         decoder = Lasting()
         decoder.places.update(self.decoder.places)
+        # (as at the end of each other commit)
+        self.decoder.limit()
         return Blocks(commit, there, 0, self.url, decoder, lambda at: None)
 
     def damaged(self, number: int, what: str, at: int = 0) -> errors.Damaged:

@@ -223,7 +223,11 @@ class Decoder:
         if self.n != self.commit.changes:
             told = f"the commit has {self.n} changes, and its line says {self.commit.changes}"
             raise self.fault(COUNTS, self.offset, told)
-        # (amid a commit none goes: a reader elsewhere couldn't find it)
+        self.limit()
+
+    def limit(self) -> None:
+        """Forgets definitions where there are too many. (Amid a commit none goes: a reader elsewhere
+        couldn't find it.)"""
         if len(self.places) >= MOST_DEFINITIONS:
             self.forget()
 

@@ -141,6 +141,10 @@ class Segment:
         os.close(self.file)
 
 
+def is_last(segment: Segment, there: list[tuple[int, str]]) -> bool:
+    return all(base <= segment.base for base, _ in there[-1:])
+
+
 def read_source(folder: str) -> Head | None:
     """What a feed is a feed of, by the head of its last segment; None where there is none yet."""
     for base, name in reversed(segments(folder)):
@@ -307,8 +311,10 @@ class Reader:
     def check_is_last(self, segment: Segment) -> None:
         """Rejects a part of a line in a segment behind which another one was begun: no line of it is
         written any more. (This one may have been, before that.)"""
-        there = self.listing.segments()
-        if there and there[-1][0] > segment.base and (line := segment.torn(self.offset)):
+        # (what was listed may be from before a cut, and to list them each time may take long)
+        if is_last(segment, self.listing.segments()) or is_last(segment, segments(self.folder)):
+            return
+        if line := segment.torn(self.offset):
             raise segment.no_line(line, self.offset)
 
     def named(self, base: int) -> str | None:
