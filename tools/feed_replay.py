@@ -166,6 +166,8 @@ def commits(path: Path) -> Iterator[tuple[dict[str, Any], bytes]]:
     at, last = HEAD, lsn_of(json.loads(text[:HEAD])["base"])
     need(last == int(path.name, 16), f"{path}: another base")
     while len(line := text[at : at + COMMIT]) == COMMIT:
+        if 0 in line:
+            return  # (the line of a long commit comes last)
         commit = json.loads(line)
         if "end" not in commit:
             need(at + COMMIT == len(text), f"{path}: lines after its end")

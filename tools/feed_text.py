@@ -240,6 +240,12 @@ class Writer:
             file.write(text)
         self.size += len(text)
 
+    def put_behind(self, offset: int, text: bytes) -> None:
+        """Puts a part of a commit so many bytes behind the last one, which doesn't count yet."""
+        with open(self.path, "r+b") as file:
+            file.seek(self.size + offset)
+            file.write(text)
+
     def text(
         self,
         end: int,
