@@ -20,7 +20,7 @@ def followed(
     dsn: str = "",
     accept: Iterable[str] = (),
     strict: bool = False,
-    max_buffered: int = 0,
+    max_buffered: int | None = None,
     max_frame: int = 0,
     **settings: Any,
 ) -> tuple[FollowSettings, Common]:

@@ -211,7 +211,7 @@ class Copying(Quiet):
         )
         return remembered.wanted
 
-    def copier(self, max_buffered: int = 0, **settings: Any) -> Copier:
+    def copier(self, max_buffered: int | None = None, **settings: Any) -> Copier:
         self.checkpoint = Checkpoint(self.store)
         self.addCleanup(os.close, self.checkpoint.file)
         self.filter = FakeFilter(meant(self.store))
@@ -986,22 +986,26 @@ class Kept(Copying):
         )
         self.assertEqual(len(self.server.told("pg_copy_logical_replication_slot")), 1)
 
-    def is_begun_anew(self, size: str) -> bool:
-        """Whether the copy begins anew where the other table has so many bytes, and 1000 may be
+    def is_begun_anew(self, size: int, most: int | None = 1000) -> bool:
+        """Whether the copy begins anew where the other table has so many bytes, and so many may be
         buffered."""
         self.cut()
         self.position = 2
-        self.server.answer("pg_table_size", [["16390", size]])
+        self.server.answer("pg_table_size", [["16390", str(size)]])
         with mock.patch.object(Copier, "copy_anew") as fresh:
-            self.copier(max_buffered=1000).run()
+            self.copier(max_buffered=most).run()
         self.assertEqual(len(self.slots), 0 if fresh.called else 1)
         return bool(fresh.called)
 
     def test_it_begins_anew_where_a_table_is_too_large_to_be_added(self) -> None:
-        self.assertTrue(self.is_begun_anew("501"))
+        self.assertTrue(self.is_begun_anew(501))
 
     def test_it_goes_on_where_a_table_can_be_added(self) -> None:
-        self.assertFalse(self.is_begun_anew("500"))
+        self.assertFalse(self.is_begun_anew(500))
+
+    def test_it_goes_on_with_a_table_of_any_size(self) -> None:
+        self.assertFalse(self.is_begun_anew(1 << 50, None))
+        self.assertEqual(self.later(), {16390: ""})
 
     def test_all_rows_are_stored_and_it_is_not_noted(self) -> None:
         self.cut()

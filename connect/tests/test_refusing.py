@@ -4,11 +4,13 @@ from __future__ import annotations
 
 import unittest
 
-from pgsub_connect.add import adder
+from pgsub_connect.add import adder, requests
 from pgsub_connect.drift.findings import About
 from pgsub_connect.drift.remembered import Remembered
 from pgsub_connect.errors import NoSlot, ServerError, Unconnected
+from pgsub_connect.follow.upkeep import Upkeep
 from pgsub_connect.store.checkpoint import read_known
+from pgsub_connect.stream import filter as stream_filter
 from pgsub_feed.errors import Passing, Unfit
 
 from .adding_case import OTHER, THIRD, Case, Run, T
@@ -130,6 +132,37 @@ class InTheWay(Case):
         self.refused("--max-buffered", max_buffered=500)
         self.want(T)
         self.refused("--max-frame", max_frame=40)
+        self.goes_on()
+
+    def test_a_table_of_any_size(self) -> None:
+        """It goes on in a file where it is too much for memory, and the connector has a block of it
+        at a time."""
+        rows = [insert(T, (5000 + it, "x" * 100)) for it in range(2000)]
+        self.world.commit(*rows)
+        waiting, push = list[int](), Upkeep.push
+
+        def noted(upkeep: Upkeep, frames: bytes) -> None:
+            push(upkeep, frames)
+            waiting.append(upkeep.filter.input.waiting)
+
+        self.patch(Upkeep, "push", noted)
+        self.patch(stream_filter, "ROOM", 8 << 10)
+        self.want(T)
+        run = self.goes_on(in_memory=1 << 17, max_buffered=None)
+        in_file = f"open transactions are too much for memory: they go on in {self.store}.spool"
+        self.assertEqual(sum(in_file in it for it in self.said), 1, self.said)
+        self.assertEqual((run.progress.restarts, run.remembered.found), (1, {}))
+        self.assertGreater(len(waiting), 200)
+        self.assertLess(max(waiting), 8 << 10)
+
+    def test_any_size_may_be_asked_for(self) -> None:
+        self.patch(requests, "sizes_of", lambda *_: {T: 1 << 50})
+        for most, told in ((1 << 40, "--max-buffered"), (None, "")):
+            run = Run(self, max_buffered=most)
+            self.assertTrue(run.until(lambda: run.progress.state == "following"))  # noqa: B023
+            self.assertIn(told, run.ask(add=[T]) or "")
+            self.assertEqual(bool(run.remembered.wanted), most is None)
+            run.end()
         self.goes_on()
 
     def test_the_others_are_added(self) -> None:

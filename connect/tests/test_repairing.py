@@ -18,7 +18,7 @@ from pgsub_connect.drift.remembered import Remembered
 from pgsub_connect.errors import Unrepaired
 from pgsub_connect.follow import snapshots
 from pgsub_connect.follow.drift_watch import Watch
-from pgsub_connect.follow.repair import Repairing, Unusable, messages_in
+from pgsub_connect.follow.repair import BLOCK, Repairing, Unusable, messages_in
 from pgsub_connect.follow.snapshots import Snapshots
 from pgsub_connect.server.catalog import Table
 from pgsub_connect.store import file as snapshot
@@ -334,7 +334,7 @@ class Repaired(Repairs):
         run.follower.requests.repairing.limits = BufferLimits(1 << 20, 30)
         with self.assertRaisesRegex(Unrepaired, "--max-frame"):
             self.repair()
-        run.follower.requests.repairing.limits = BufferLimits(1 << 20, 1 << 20)
+        run.follower.requests.repairing.limits = BufferLimits(max_frame=1 << 20)
         self.repair()
         self.ends(run)
 
@@ -426,15 +426,30 @@ def payloads_in(stream: bytes) -> Iterator[bytes]:
 class Files(Case):
     """The file with changes."""
 
-    def messages(self, content: bytes, most: int = 1 << 20) -> list[bytes]:
+    def lots(self, content: bytes, most: int | None = None) -> list[list[bytes]]:
         path = self.folder + "/changes"
         with open(path, "wb") as file:
             file.write(content)
-        return [it for lot in messages_in(path, most) for it in lot]
+        return list(messages_in(path, BufferLimits(most, 1 << 20)))
+
+    def messages(self, content: bytes, most: int | None = None) -> list[bytes]:
+        return [it for lot in self.lots(content, most) for it in lot]
 
     def test_messages(self) -> None:
         self.assertEqual(self.messages(b"\0\0\0\x02Rx\0\0\0\x01D"), [b"Rx", b"D"])
         self.assertEqual(self.messages(b""), [])
+
+    def test_any_number_of_them(self) -> None:
+        """A lot at a time is in memory, and a message is no longer than the filter takes."""
+        message = b"I" + bytes(1 << 10)
+        content = (struct.pack(">I", len(message)) + message) * 2000
+        lots = self.lots(content)
+        self.assertEqual([it for lot in lots for it in lot], [message] * 2000)
+        self.assertLess(max(sum(map(len, it)) for it in lots), BLOCK + len(message))
+        with self.assertRaisesRegex(Unusable, f"have {len(content)} bytes, and {1 << 20} may be"):
+            self.messages(content, 1 << 20)
+        with self.assertRaisesRegex(Unusable, f"a row has {1 << 31} bytes: .* --max-frame above"):
+            self.messages(struct.pack(">I", 1 << 31) + b"I")
 
     def test_what_is_none(self) -> None:
         for content in (
@@ -458,11 +473,11 @@ class Files(Case):
         ), mock.patch("os.fstat") as about:
             about.return_value = os.stat_result((0o100600, 0, 0, 1, os.getuid() + 2, 0, 0, 0, 0, 0))
             with self.assertRaisesRegex(Unusable, "somebody else"):
-                next(messages_in(path, 5))
+                next(messages_in(path, BufferLimits()))
         os.symlink(path, path + ".link")
         for wrong in (path + ".link", path + ".none", self.folder):
             with self.assertRaises(Unusable):
-                next(messages_in(wrong, 1 << 20))
+                next(messages_in(wrong, BufferLimits()))
 
 
 class Held(unittest.TestCase):

@@ -19,8 +19,8 @@ from .test_passing import Case, Source
 from .vectors import begin, commit, insert, logged
 
 KILLED = FilterEnded(-9, "")
-# A filter that is told how much it may buffer, and one whose open transactions go on in a file.
-BOUNDED, SPOOLED = BufferLimits(max_buffered=1000, max_frame=500), BufferLimits(1000, 500, False)
+# A filter that is told how much it may buffer, and one whose open transactions have no limit.
+BOUNDED, ANY = BufferLimits(max_buffered=1000, max_frame=500), BufferLimits(max_frame=500)
 
 
 class Killed(unittest.TestCase):
@@ -36,7 +36,7 @@ class Killed(unittest.TestCase):
 
     def test_twice_with_a_file(self) -> None:
         """No limit is asked for that there isn't."""
-        kills = Kills(SPOOLED)
+        kills = Kills(ANY)
         kills.note(KILLED, 7, SMALL)
         with self.assertRaisesRegex(KilledTwice, r"more memory than there was \(.*MemoryMax\)$"):
             kills.note(KILLED, 7, SMALL)
@@ -96,7 +96,7 @@ class Texts(unittest.TestCase):
                 f"{wanted}, and memory for it",
             )
         self.assertEqual(
-            limit_text(FilterEnded(FRAME_TOO_LARGE, ""), SPOOLED, (0, 0), 600),
+            limit_text(FilterEnded(FRAME_TOO_LARGE, ""), ANY, (0, 0), 600),
             "a message had 600 bytes, and 500 are accepted: give --max-frame 1208, and memory for it",
         )
         limits = BufferLimits(1 << 40, LONGEST_FRAME - 5)
@@ -111,6 +111,7 @@ class Texts(unittest.TestCase):
     def test_others(self) -> None:
         for status in (1, 3, 12, 13, MEMORY, 15, -9):
             self.assertEqual(limit_text(FilterEnded(status, ""), self.LIMITS, (7, 1200), 600), "")
+        self.assertEqual(limit_text(FilterEnded(SPOOL_FULL, ""), ANY, (7, 1200), 600), "")
 
     def test_memory(self) -> None:
         text = limit_text(FilterEnded(MEMORY, ""), self.LIMITS, (7, SMALL), 600)

@@ -17,7 +17,7 @@ from pgsub_connect.stream.filter_end import NO_ROOM, NOT_READ, NOT_WRITTEN, OF_S
 
 from . import adding_case, test_passing
 from .adding_case import FIRST, T
-from .small_world import insert
+from .small_world import WorldSource, insert
 from .vectors import logged
 
 REFUSED = 13
@@ -168,6 +168,24 @@ class Follows(adding_case.Case):
             self.assertFalse(any("found" in it for it in self.said), self.said)
             self.assertEqual(run.remembered.found, {})
             self.assertEqual(os.listdir(self.store + ".spool"), [])
+
+    def test_no_room_for_rows_that_are_added(self) -> None:
+        """They are read again in the next session."""
+        self.followed()
+        self.spoil()
+        self.want(T)
+        self.patch(spool_faults, "LONGEST", 0.2)
+        left = [NO_ROOM]
+
+        def hook(name: str) -> None:
+            if name == "block" and left:
+                Path(self.store + ".fault").write_text(left.pop(), "ascii")
+
+        self.addCleanup(setattr, WorldSource, "hook", WorldSource.hook)
+        WorldSource.hook = staticmethod(hook)
+        run = self.goes_on(max_buffered=None)
+        self.assertEqual((run.progress.restarts, run.remembered.found), (1, {}))
+        self.assertIn("make room on that disk", "\n".join(self.said))
 
     def test_one_that_cant_be_made_at_first(self) -> None:
         self.followed()

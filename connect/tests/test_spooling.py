@@ -213,25 +213,15 @@ class Words(Case):
         self.assertEqual(self.told_of(child), {"--spool": spool and spool.path, **sizes})
         self.assertEqual((child.most(), child.spill()), (None, None))
 
-    def test_any_size_without_a_feed(self) -> None:
-        """A commit comes back part after part."""
-        for known in (1 << 30, 1 << 31, None):
-            with mock.patch.object(memory_limit, "memory", lambda: known):  # noqa: B023
-                self.assertEqual(self.made("--spool-memory", "1MB").most(), None)
-                self.assertIsNotNone(self.made().spill())
-
-    def test_no_more_than_a_commit_with_a_feed_may_have(self) -> None:
-        """Each transaction comes back whole there: so a file takes no more than memory does."""
-        feed = ("--feed", str(self.folder) + ".feed")
-        for known, most, goes_on in (
-            (1 << 30, 1 << 29, False),
-            (1 << 31, 1 << 30, False),
-            (3 << 30, 3 << 29, True),
-            (None, None, True),
-        ):
-            with mock.patch.object(memory_limit, "memory", lambda: known):  # noqa: B023
-                self.assertEqual(self.made(*feed).spill() is not None, goes_on)
-                self.assertEqual(self.made(*feed, "--spool-memory", "1MB").most(), most)
+    def test_any_size(self) -> None:
+        """A commit comes back part after part, also where there is a feed."""
+        for feed in ((), ("--feed", str(self.folder) + ".feed")):
+            for known in (1 << 28, 1 << 30, 1 << 33, None):
+                with mock.patch.object(memory_limit, "memory", lambda: known):  # noqa: B023
+                    self.assertEqual(self.made(*feed, "--spool-memory", "1MB").most(), None)
+                    child = self.made(*feed)
+                    self.assertIsNotNone(child.spill())
+                    self.assertEqual(child.most(), None)
 
     def test_a_limit_above_memory(self) -> None:
         """What an operator allows in all is no more memory than there is."""
@@ -270,12 +260,17 @@ class Words(Case):
                 self.assertEqual(memory_limit.default_in_memory(), most)
 
     def test_what_rows_that_are_added_may_have(self) -> None:
-        """Their limit stays, whatever the filter is told."""
+        """As much as other transactions."""
         with mock.patch.object(memory_limit, "memory", lambda: 1 << 30):
-            for words, bounded in (((), False), (("--spool-memory", "no"), True)):
+            for words, most, longest in (
+                ((), None, 1 << 29),
+                (("--spool-memory", "1MB"), None, 1 << 29),
+                (("--spool-memory", "no"), 1 << 29, 1 << 29),
+                (("--max-buffered", "5000"), 5000, 5000),
+            ):
                 options = options_of(["follow", "--store", self.store, *words])
                 limits = session.settled_sizes(options).limits()
-                self.assertEqual(limits, BufferLimits(1 << 29, 1 << 29, bounded))
+                self.assertEqual(limits, BufferLimits(most, longest))
 
     def test_what_a_follower_leaves(self) -> None:
         """No folder, unless something is in it; its size is shown from the start."""

@@ -112,6 +112,6 @@ class Requests:
             return f"{table.text()}: the checkpoint has no room for it"
         size = sizes_of(source.plain, [table]).get(oid, 0)
         most = self.limits.max_buffered
-        if size > FAR * most:
+        if most is not None and size > FAR * most:
             return too_large(table, size, most)
         return too_long(table, size) if self.progress.server.is_waited_for else ""

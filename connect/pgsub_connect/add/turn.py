@@ -149,8 +149,9 @@ class RowsSender:
 
     def check(self, rows: Rows, began: float) -> None:
         """Raises where nothing more of the rows may be passed on."""
-        if rows.cost > self.limits.max_buffered:
-            raise TooLarge(too_large(rows.table, rows.cost, self.limits.max_buffered))
+        most = self.limits.max_buffered
+        if most is not None and rows.cost > most:
+            raise TooLarge(too_large(rows.table, rows.cost, most))
         if rows.longest > self.limits.max_frame:
             text = f"{rows.table.text()} has a row of {rows.longest} bytes: give the follower a --max-frame above that"
             raise TooLarge(text)

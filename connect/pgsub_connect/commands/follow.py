@@ -41,7 +41,7 @@ from ..stream.common import Common, Tolerance
 from ..stream.filter import MAX_BUFFERED, SPOOL as SPOOL_WORD, SPOOL_MEMORY, WATCH, Filter
 from ..stream.filter_end import FilterEnded
 from ..stream.left_file import LeftFile
-from ..stream.memory_limit import default_buffered, default_in_memory, default_spooled
+from ..stream.memory_limit import default_buffered, default_in_memory
 from .arguments import session, words
 from .arguments.feed import FeedOptions, settled_feed
 from .arguments.following import check_numeric
@@ -307,15 +307,14 @@ def begin_buffering(options: Options, child: Filter) -> None:
     spool.remove()
     stays = options.spool_memory or default_in_memory()
     in_file = [SPOOL_WORD, spool.path, SPOOL_MEMORY, str(stays)]
-    in_all = most if options.is_bounded else default_spooled(bool(options.feed))
-    in_file += [MAX_BUFFERED, str(in_all)] if in_all else []
+    in_file += [MAX_BUFFERED, str(most)] if options.is_bounded else []
     if options.spool_memory == words.NO:
         return child.buffer([MAX_BUFFERED, str(most)])
     if options.spool_memory:
         return child.buffer(in_file, spool)
     first = min(most, default_buffered())
     child.buffer([MAX_BUFFERED, str(first)])
-    if not in_all or in_all > first:
+    if not options.is_bounded or most > first:
         child.buffer_later(in_file, spool)
 
 

@@ -73,13 +73,15 @@ STEP = 100_000
 
 
 class Interrupted:
-    """It. `most`: how large a table may be at the server that is added by itself."""
+    """It. `most_buffered`: how much a transaction may have, None for any. `most`: how large a table
+    may be at the server that is added by itself."""
 
     def __init__(
-        self, files: CopyFiles, tables: CopiedTables, sender: Sender, most_buffered: int
+        self, files: CopyFiles, tables: CopiedTables, sender: Sender, most_buffered: int | None
     ) -> None:
         self.files, self.tables, self.sender = files, tables, sender
-        self.filter, self.slot, self.most = sender.filter, sender.slot, most_buffered // 2
+        self.filter, self.slot = sender.filter, sender.slot
+        self.most = float("inf") if most_buffered is None else most_buffered // 2
         self.subscription, self.remembered = tables.subscription, tables.remembered
 
     def is_of_use(self, replication: Connection) -> bool:

@@ -197,7 +197,7 @@ class FilterLife:
         """What is to be done about a filter's end, "" where nothing is known. `largest`: the
         largest transaction that isn't stored, and its bytes."""
         limits, most = self.limits, self.filter.most()
-        if most is not None:
+        if ended.status == SPOOL_FULL and most is not None:
             limits = dataclasses.replace(limits, max_buffered=most)
         cure = limit_text(ended, limits, largest, self.noting.longest)
         cure = cure or self.spool.note(ended)

@@ -38,12 +38,13 @@ from ..add.replacement import payload_of
 from ..copy.messages import begin, commit, frame
 from ..errors import ServerError
 from ..stream.hold import CHANGES
+from ..stream.memory_limit import BufferLimits
 from ..stream.messages import clock, relation_of
 from .snapshots import Snapshots
 from .upkeep import Upkeep
 
-# How many bytes of the file are passed on at a time.
-BLOCK = 1 << 17
+# How many bytes of the file are passed on at a time, and what a frame has before a message.
+BLOCK, AROUND = 1 << 17, 25
 LETTERS = (b"R", b"I", b"U", b"D")
 
 
@@ -51,8 +52,9 @@ class Unusable(Exception):
     """Why changes can't be passed on."""
 
 
-def messages_in(path: str, most: int) -> Iterator[list[bytes]]:
-    """The messages of a file, in lots. It has to be ours or root's, and to have no others."""
+def messages_in(path: str, limits: BufferLimits) -> Iterator[list[bytes]]:
+    """The messages of a file, in lots, within these limits. It has to be ours or root's, and to have
+    no others."""
     with contextlib.ExitStack() as stack:
         try:
             number = os.open(path, os.O_RDONLY | os.O_NOFOLLOW | os.O_NONBLOCK | os.O_CLOEXEC)
@@ -62,14 +64,12 @@ def messages_in(path: str, most: int) -> Iterator[list[bytes]]:
         about = os.fstat(number)
         if not stat.S_ISREG(about.st_mode) or about.st_uid not in (os.getuid(), 0):
             raise Unusable(f"{path}: a file of somebody else")
-        if about.st_size > most:
-            more = "choose tables by --table, or give the follower a --max-buffered above that"
-            text = f"the changes have {about.st_size} bytes, and {most} may be buffered: {more}"
-            raise Unusable(text)
+        check_size(about.st_size, limits.max_buffered)
         file = stack.enter_context(open(number, "rb", closefd=False))
         lot, size = list[bytes](), 0
         while head := file.read(4):
-            message = file.read(length := int.from_bytes(head, "big"))
+            check_length(length := int.from_bytes(head, "big"), limits.max_frame)
+            message = file.read(length)
             if len(head) < 4 or len(message) != length or message[:1] not in LETTERS:
                 raise Unusable(f"{path}: it isn't a file of changes")
             lot.append(message)
@@ -78,6 +78,20 @@ def messages_in(path: str, most: int) -> Iterator[list[bytes]]:
                 yield lot
                 lot, size = [], 0
         yield lot
+
+
+def check_size(size: int, most: int | None) -> None:
+    """Rejects more changes than a transaction may have."""
+    if most is not None and size > most:
+        more = "choose tables by --table, or give the follower a --max-buffered above that"
+        raise Unusable(f"the changes have {size} bytes, and {most} may be buffered: {more}")
+
+
+def check_length(length: int, most: int) -> None:
+    """Rejects a message that is longer than the filter takes, before it is read."""
+    if length > most - AROUND:
+        text = f"a row has {length} bytes: give the follower a --max-frame above that"
+        raise Unusable(text)
 
 
 class Repairing:
@@ -141,9 +155,9 @@ class Repairing:
     def send(self) -> None:
         """Passes on the changes. Where that fails behind the first of them the session ends."""
         assert self.hold.into and self.hold.point
-        lots = messages_in(self.hold.into + CHANGES, self.limits.max_buffered)
+        lots = messages_in(self.hold.into + CHANGES, self.limits)
         try:
-            first = self.checked(next(lots))
+            first = self.noted(next(lots))
         except Unusable as error:
             self.give_up(str(error), True)
             return
@@ -154,18 +168,15 @@ class Repairing:
         try:
             self.push([frame(lsn, begin(lsn, XID, now)), *(frame(lsn, it) for it in first)])
             for lot in lots:
-                self.push([frame(lsn, it) for it in self.checked(lot)])
+                self.push([frame(lsn, it) for it in self.noted(lot)])
         except Unusable as error:
             self.give_up(str(error), True)
             raise ServerError("the session ends, since rows can't be repaired") from None
         self.push([frame(lsn, commit(lsn, self.hold.point, now))])
 
-    def checked(self, lot: list[bytes]) -> list[bytes]:
-        """Messages that the filter takes. Their definitions are known then."""
+    def noted(self, lot: list[bytes]) -> list[bytes]:
+        """Messages, whose definitions are known then."""
         for message in lot:
-            if len(message) > self.limits.max_frame - 25:
-                text = f"a row has {len(message)} bytes: give the follower a --max-frame above that"
-                raise Unusable(text)
             if message[:1] == b"R" and self.hold.point and (relation := relation_of(message[1:])):
                 self.remembered.replaced(relation, self.hold.point - 1)
         return lot

@@ -20,13 +20,11 @@ IN_MEMORY, PART = 64 << 20, 8
 
 @dataclasses.dataclass(frozen=True)
 class BufferLimits:
-    """What a transaction may have that the connector makes, as of the rows of a table that is added,
-    and the filter's longest frame, in bytes. `is_bounded`: whether the filter buffers no more than
-    the former of all open transactions; else they go on in a file."""
+    """What open transactions may have, also one that the connector makes, as of the rows of a table
+    that is added, None for any; and the filter's longest frame. In bytes."""
 
-    max_buffered: int = 0
+    max_buffered: int | None = None
     max_frame: int = 0
-    is_bounded: bool = True
 
 
 def memory() -> int | None:
@@ -43,16 +41,9 @@ def memory() -> int | None:
 
 
 def default_buffered() -> int:
-    """What `--max-buffered` is where it isn't said: half of the memory, at most 1 GiB."""
+    """What of open transactions is in memory alone at most: half of it, at most 1 GiB."""
     known = memory()
     return MOST if known is None else max(LEAST, min(MOST, known // 2))
-
-
-def default_spooled(has_feed: bool) -> int | None:
-    """What open transactions may have where they go on in a file and that isn't said: half of the
-    memory where there is a feed, since for it each comes back whole at its commit. None for any."""
-    known = memory() if has_feed else None
-    return None if known is None else max(LEAST, known // 2)
 
 
 def default_in_memory() -> int:
@@ -89,7 +80,8 @@ class Kills:
             self.xid = xid
             return
         told = f"twice in the transaction {xid}, of which {size} bytes were passed on"
-        more = f", and --max-buffered of {size} bytes at least" if self.limits.is_bounded else ""
+        is_bounded = self.limits.max_buffered is not None
+        more = f", and --max-buffered of {size} bytes at least" if is_bounded else ""
         raise KilledTwice(ended.status, f"{told}: {SCARCE}{more}")
 
 
@@ -101,8 +93,8 @@ def limit_text(
     `transaction` is the xid of the largest one that isn't stored, and how many bytes of it were
     passed on, and `longest` the length of the longest message, or of the longest row of a load.
     """
-    if ended.status == SPOOL_FULL:
-        return full_text(limits, *transaction)
+    if ended.status == SPOOL_FULL and limits.max_buffered is not None:
+        return full_text(limits.max_buffered, *transaction)
     if ended.status == FRAME_TOO_LARGE:
         return frame_text(limits, longest)
     if ended.status == REJECTED and ended.said.endswith(LINE_TOO_LONG):
@@ -113,13 +105,13 @@ def limit_text(
     return ""
 
 
-def full_text(limits: BufferLimits, xid: int, size: int) -> str:
+def full_text(most: int, xid: int, size: int) -> str:
     which = f"transaction {xid} had {size} bytes so far, and"
     which = which if size else "the open transactions had more than"
-    allowed = f"{limits.max_buffered} may be buffered of all that are open"
-    wanted = 2 * max(limits.max_buffered, size)
+    allowed = f"{most} may be buffered of all that are open"
+    wanted = 2 * max(most, size)
     more = "how much more comes until the commit isn't known, so that may be too little"
-    return f"{which} {allowed}: give --max-buffered {wanted} at least, and memory for it; {more}"
+    return f"{which} {allowed}: give --max-buffered {wanted} at least, and room for it; {more}"
 
 
 def frame_text(limits: BufferLimits, longest: int, what: str = "message") -> str:
@@ -130,6 +122,6 @@ def frame_text(limits: BufferLimits, longest: int, what: str = "message") -> str
     wanted = min(2 * max(limits.max_frame, longest + 4), LONGEST_FRAME)
     if wanted <= limits.max_frame:
         return f"{text}, which is the most that can be"
-    is_above = limits.is_bounded and 2 * wanted > limits.max_buffered
-    more = f" --max-buffered {2 * wanted}" if is_above else ""
+    most = limits.max_buffered
+    more = f" --max-buffered {2 * wanted}" if most is not None and 2 * wanted > most else ""
     return f"{text}: give --max-frame {wanted}{more}, and memory for it"

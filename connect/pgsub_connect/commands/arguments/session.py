@@ -44,7 +44,7 @@ def program_option() -> Any:
 @dataclasses.dataclass(frozen=True)
 class SizeOptions:
     """The program, and its memory in bytes and pages; 0 and None for what it is by default.
-    `is_bounded`: whether it buffers no more than `max_buffered` of open transactions."""
+    `is_bounded`: whether open transactions have no more than `max_buffered`, also in a file."""
 
     pgsub: str = program_option()
     spool_memory: int | str = option(
@@ -54,7 +54,7 @@ class SizeOptions:
         value="SIZE|no",
     )
     max_buffered: int = option(
-        "the most that open transactions may have, in memory and in that file (default: half of the memory; in memory alone, and of rows that are added or repaired, at most 1 GiB)",
+        "the most that open transactions, and rows that are added or repaired, may have, in memory and in that file (default: any; in memory alone half of it, at most 1 GiB)",
         0,
         type=within(1, (1 << 63) - 1),
         value="BYTES",
@@ -73,7 +73,7 @@ class SizeOptions:
     is_bounded: bool = True
 
     def limits(self) -> BufferLimits:
-        return BufferLimits(self.max_buffered, self.max_frame, self.is_bounded)
+        return BufferLimits(self.max_buffered if self.is_bounded else None, self.max_frame)
 
 
 Settled = TypeVar("Settled", bound=SizeOptions)
