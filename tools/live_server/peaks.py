@@ -65,8 +65,8 @@ class Peaks(threading.Thread):
         self.join(10)
 
     def together(self) -> int:
-        """How many megabytes connector and filter took at most, if both at one moment."""
-        return (self.most["connector"] + self.most["filter"]) >> 10
+        """How many megabytes they took at most, if all at one moment."""
+        return sum(self.most.values()) >> 10
 
     def text(self) -> str:
         taken = [f"{part} {most >> 10}" for part, most in self.most.items() if most]
@@ -78,7 +78,7 @@ class Group:
     """A control group of version 2. What a follower starts is in it, too."""
 
     def __init__(self, name: str, megabytes: int, top: Path = GROUPS) -> None:
-        self.folder = top / name
+        self.folder, self.killed = top / name, 0
         self.folder.mkdir()
         (self.folder / "memory.max").write_text(f"{megabytes << 20}", encoding="ascii")
         swap = self.folder / "memory.swap.max"
@@ -97,6 +97,13 @@ class Group:
         """The words that run a command in it, as the same process."""
         enters = 'echo $$ > "$0/cgroup.procs" && exec "$@"'
         return ["sh", "-c", enters, str(self.folder), *words]
+
+    def ended(self) -> int:
+        """How many of its processes were killed since the last time, since they were above it."""
+        lines = (self.folder / "memory.events").read_text(encoding="ascii").splitlines()
+        killed = int(dict(it.split() for it in lines).get("oom_kill", "0"))
+        new, self.killed = killed - self.killed, killed
+        return new
 
     def remove(self) -> None:
         """Removes it once what runs there has ended."""

@@ -28,6 +28,8 @@ from .rows import quoted
 # What is done at full size.
 ROWS, SUBTRANSACTIONS, WIDE = 10_000_000, 1_000_000, 1_000_000_000
 OTHERS, WIDEST = 50, 100_000_000
+# A row has this part of a limit of memory at most: connector, filter and tables take it so often.
+OF_MEMORY = 32
 SCHEMA = (
     "CREATE TABLE large (id bigint PRIMARY KEY, other bigint NOT NULL, part int, word text, note text)",
     "CREATE UNIQUE INDEX large_other ON large (other)",
@@ -58,9 +60,11 @@ MOST_HELD = 600
 
 @dataclasses.dataclass(frozen=True)
 class Size:
-    """How much there is, by how many full sizes are divided."""
+    """How much there is, by how many full sizes are divided. `memory`: how many megabytes who
+    follows may take, 0 for any."""
 
     of: int
+    memory: int = 0
 
     @property
     def rows(self) -> int:
@@ -72,14 +76,15 @@ class Size:
 
     @property
     def wide(self) -> int:
-        """The bytes of a row's text."""
-        return min(WIDE // self.of, WIDEST)
+        """The bytes of a row's text, which comes whole wherever it goes."""
+        most = min(WIDE // self.of, WIDEST)
+        return min(most, (self.memory << 20) // OF_MEMORY) if self.memory else most
 
 
 @dataclasses.dataclass(frozen=True)
 class Form:
-    """How it is followed. `memory`: how many megabytes connector and filter may take, 0 for any;
-    `in_memory`: how many bytes of open transactions stay there, 0 for what is the default."""
+    """How it is followed. `memory`: how many megabytes connector, filter and tables may take, 0 for
+    any; `in_memory`: how many bytes of open transactions stay there, 0 for what is the default."""
 
     proto: int = 2
     fed: bool = True
@@ -292,8 +297,11 @@ class Large(Tables):
         """What is above its limit in the last step, "" where nothing is."""
         if self.limits:
             return f"it ended at a limit, and went on with more: {'; '.join(self.limits)}"
-        if self.form.memory and (taken := self.peaks.together()) > self.form.memory:
-            return f"connector and filter took {taken} of {self.form.memory} MB"
+        if self.group and (ended := self.group.ended()):
+            return f"the limit of {self.form.memory} MB has ended {ended} processes"
+        if self.form.memory and not self.group:
+            if (taken := self.peaks.together()) > self.form.memory:
+                return f"connector, filter and tables took {taken} of {self.form.memory} MB"
         return ""
 
     def about(self) -> str:

@@ -17,6 +17,7 @@ try:
     from live_server.errors import Failed
     from live_server.follower import wait_until
     from live_server.peaks import STEP, Group, Peaks as Followed, forget_peak, peak_of
+    from live_server.sizes import Size
 except ModuleNotFoundError:
     raise unittest.SkipTest("psycopg is needed") from None
 
@@ -58,6 +59,11 @@ class Peaks(unittest.TestCase):
             time.sleep(5 * STEP)
             self.assertEqual((peaks.spooled, "in a file" in peaks.text()), (0, False))
 
+    def test_all_that_follow(self) -> None:
+        peaks = Followed(os.getpid, Path("/nonexistent"))
+        peaks.most = {"connector": 10 << 10, "filter": 20 << 10, "tables": 30 << 10}
+        self.assertEqual(peaks.together(), 60)
+
 
 class Groups(unittest.TestCase):
     """The files are those of a folder here."""
@@ -80,6 +86,25 @@ class Groups(unittest.TestCase):
         words = group.words([sys.executable, "-c", "import os; print(os.getpid())"])
         said = subprocess.run(words, capture_output=True, text=True, check=True).stdout
         self.assertEqual((group.folder / "cgroup.procs").read_text(), said)
+
+    def test_what_it_has_ended(self) -> None:
+        """Since it was asked last."""
+        group = Group("group", 512, self.top)
+        for killed, ended in ((0, 0), (2, 2), (2, 0), (3, 1)):
+            text = f"low 0\nhigh 0\nmax 9\noom 4\noom_kill {killed}\noom_group_kill 0\n"
+            (group.folder / "memory.events").write_text(text)
+            self.assertEqual(group.ended(), ended)
+
+
+class Sizes(unittest.TestCase):
+    def test_a_row_is_a_part_of_the_memory(self) -> None:
+        for of, memory, wide in (
+            (1, 0, 100_000_000),
+            (100, 0, 10_000_000),
+            (10, 512, 16 << 20),
+            (100, 512, 10_000_000),
+        ):
+            self.assertEqual(Size(of, memory).wide, wide)
 
 
 class Digests(unittest.TestCase):
