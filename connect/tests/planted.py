@@ -2185,6 +2185,27 @@ BUGS = (
         ("test_spooling",),
     ),
     Bug(
+        "a filter that was killed twice in one transaction ends the follower where a file would do",
+        "pgsub_connect/stream/memory_limit.py",
+        "(ended.status == MEMORY or ended.status < 0 and xid == self.xid)",
+        "ended.status == MEMORY",
+        ("test_sizes",),
+    ),
+    Bug(
+        "a filter without memory is started again and again where a file would do",
+        "pgsub_connect/stream/memory_limit.py",
+        "(ended.status == MEMORY or ended.status < 0 and xid == self.xid)",
+        "ended.status < 0 and xid == self.xid",
+        ("test_sizes",),
+    ),
+    Bug(
+        "a filter's first kill has open transactions go on in a file",
+        "pgsub_connect/stream/memory_limit.py",
+        "ended.status < 0 and xid == self.xid)",
+        "ended.status < 0)",
+        ("test_sizes",),
+    ),
+    Bug(
         "whole transactions are asked for where a file would do",
         "pgsub_connect/follow/filter_life.py",
         "(self.spill() or self.form.stop_streaming(TOO_MUCH))",

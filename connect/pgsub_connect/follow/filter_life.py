@@ -180,7 +180,10 @@ class FilterLife:
                     # (that was found, and is told as such)
                     self.watch.show()
                 raise ended
-            self.kills.note(ended, *largest)
+            if self.kills.are_of_memory(ended, *largest) and self.spill():
+                self.kills = Kills(self.limits)
+            else:
+                self.kills.note(ended, *largest)
             log.warning(f"{ended}: it is started again")
         self.progress.note_restart(ended.with_cure())
 
