@@ -15,6 +15,7 @@ from feed_text import About, Column, Line, Message
 
 from .bases import make_base
 from .feeds import ID, NAME, STOCK, FeedCase, delete, insert, table, truncate, update
+from .small_world import wait_for
 from .test_consumer import CONNECT, OTHER, random_lines
 
 EXAMPLE = CONNECT.parent / "examples/read_files.py"
@@ -114,6 +115,7 @@ class Reads(ExampleCase):
         self.addCleanup(child.kill)
         for line in (bytes(256), text[:100] + bytes(156), bytes(100) + text[100:256]):
             self.feed.path.write_bytes(before + line + text[256:])
+            self.assertTrue(wait_for(lambda: self.kept()[0] > 0))
             time.sleep(0.2)
             self.assertEqual((child.poll(), self.kept()[0]), (None, 0x200))
         os.truncate(self.feed.path, size)
