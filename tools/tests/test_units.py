@@ -75,6 +75,7 @@ class Case(unittest.TestCase):
             "UMask": "0077",
             "RestartForceExitStatus": "7",
             "Restart": "on-abnormal",
+            "OOMPolicy": "continue",
             "SuccessExitStatus": "9",
             "User": "pgsub-%i",
         }
@@ -95,7 +96,7 @@ class Case(unittest.TestCase):
         )
         # (what says how a follower is watched, and where its status file is)
         others = {"NotifyAccess", "TimeoutStartSec", "WatchdogSec", "SuccessExitStatus", "KillMode"}
-        others |= {it for it in follower if it.startswith("RuntimeDirectory")}
+        others |= {it for it in follower if it.startswith("RuntimeDirectory")} | {"OOMPolicy"}
         self.assertEqual(follower.keys() - sink.keys(), others)
         self.assertEqual(sink["EnvironmentFile"], ["/etc/pgsub/%i.sink.conf"])
         _, *words = shlex.split(sink["ExecStart"][0].replace("%i", "shop"))
