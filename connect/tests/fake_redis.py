@@ -27,7 +27,9 @@ class FakeRedis:
     def __init__(self) -> None:
         self.data = dict[bytes, Any]()
         self.changed = collections.Counter[bytes]()
-        self.transactions = 0
+        self.transactions, self.largest = 0, 0
+        # by cursors of searches the keys up to which they have come
+        self.cursors = dict[bytes, bytes]()
         # what happens before an EXEC, and what is said in the place of its result
         self.before_exec: Callable[[], None] = lambda: None
         self.fails: Callable[[], Said | None] = lambda: None
@@ -115,13 +117,15 @@ class FakeRedis:
     def do_scan(
         self, cursor: bytes, _: bytes, pattern: bytes, __: bytes, count: bytes
     ) -> list[Any]:
-        keys, at = sorted(self.data), int(cursor)
+        # (what is removed meanwhile makes it pass over nothing that stays)
+        keys = [it for it in sorted(self.data) if it > self.cursors.get(cursor, b"")]
         # (a backslash escapes a sign)
         glob = re.sub(r"\\(.)", lambda it: f"[{it[1]}]", pattern.decode())
-        found = [
-            it for it in keys[at : at + 3] if fnmatch.fnmatchcase(it.decode(errors="replace"), glob)
-        ]
-        return [b"%d" % (at + 3 if at + 3 < len(keys) else 0), found]
+        found = [it for it in keys[:3] if fnmatch.fnmatchcase(it.decode(errors="replace"), glob)]
+        if len(keys) <= 3:
+            return [b"0", found]
+        self.cursors[next_cursor := b"%d" % (len(self.cursors) + 1)] = keys[2]
+        return [next_cursor, found]
 
     def do_xadd(self, key: bytes, id: bytes, *pairs: bytes) -> Any:
         found = self.data.setdefault(key, Stream())
@@ -199,6 +203,7 @@ class FakeCalls:
         if any(self.server.changed[key] != count for key, count in watched.items()):
             return None
         self.server.transactions += 1
+        self.server.largest = max(self.server.largest, len(queue))
         return [self.server.do(it) for it in queue]
 
     def close(self) -> None:

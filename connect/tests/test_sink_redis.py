@@ -4,6 +4,7 @@ writes there."""
 from __future__ import annotations
 
 import contextlib
+import copy
 import importlib
 import json
 import os
@@ -15,11 +16,12 @@ import time
 import unittest
 from collections import Counter
 from collections.abc import Iterator
+from pathlib import Path
 from typing import Any
 from unittest import mock
 
 from feed_load import Load
-from feed_replay import Replay, replay
+from feed_replay import Replay, commits, lsn_of, replay
 from feed_text import About, Column, Line, Writer, summed
 
 from pgsub_connect.commands import sink as sink_module
@@ -610,7 +612,7 @@ class Begins(RedisCase):
             def fail(done: int = done) -> Said | None:
                 return Said("LOADING") if self.server.transactions >= done else None
 
-            with mock.patch("pgsub_feed.sinks.redis_engine.MOST", 1):
+            with mock.patch("pgsub_feed.sinks.redis_form.MOST", 1):
                 self.server.fails = fail
                 self.fails(Passing, "LOADING", base=base)
                 self.server.fails = lambda: None
@@ -1112,6 +1114,22 @@ def hashes_of(state: Replay) -> dict[str, dict[str, str]]:
     return found
 
 
+def with_part(folder: Path, state: Replay, done: int) -> Replay:
+    """The rows once so many changes of the next commit are there."""
+    (path,) = (it for it in folder.iterdir() if len(it.name) == 16)
+    body = next(body for commit, body in commits(path) if lsn_of(commit["end"]) > state.at)
+    state, held = copy.deepcopy(state), dict[int, Any]()
+    for it in map(json.loads, body.splitlines()):
+        if it["op"] == "table":
+            held[it["oid"]] = it
+        elif done:
+            done -= 1
+            if it["oid"] in held:
+                state.describe(held.pop(it["oid"]))
+            state.change(it)
+    return state
+
+
 class AnyTime(RedisCase):
     """Whatever the changes are, and wherever it is cut off."""
 
@@ -1145,7 +1163,7 @@ class AnyTime(RedisCase):
             return Said("LOADING") if left == 0 else None
 
         self.server.fails = fails
-        with mock.patch("pgsub_feed.sinks.redis_engine.MOST", rng.choice((1, 30, 1000))):
+        with mock.patch("pgsub_feed.sinks.redis_form.MOST", rng.choice((1, 30, 1000))):
             try:
                 self.run_it()
             except Passing:
@@ -1160,6 +1178,11 @@ class AnyTime(RedisCase):
         until = (int(high, 16) << 32) + int(low, 16)
         state = self.state = replay(self.path, self.state, until=until)
         self.assertEqual(f"{state.at >> 32:X}/{state.at & 0xFFFFFFFF:X}", self.server.at())
+        if b"pgsub:removed" in self.server.data:
+            # (rows of a table may be there that are about to go)
+            return
+        if part := self.server.data.get(b"pgsub:part"):
+            state = with_part(self.path, state, json.loads(part)["done"])
         noted = json.loads(self.server.data.get(b"pgsub:tables", b'{"kept":[]}'))["kept"]
         ours = {}
         for name, it, _ in noted:

@@ -152,7 +152,7 @@ class Waited(Case):
 
     def patch_often(self) -> None:
         """Each commit is a MULTI of its own."""
-        patched = mock.patch("pgsub_feed.sinks.redis_engine.MOST", 1)
+        patched = mock.patch("pgsub_feed.sinks.redis_form.MOST", 1)
         patched.start()
         self.addCleanup(patched.stop)
 

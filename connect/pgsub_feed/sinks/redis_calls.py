@@ -9,7 +9,7 @@ import contextlib
 import importlib
 import ssl
 import urllib.parse
-from collections.abc import Callable, Iterator, Sequence
+from collections.abc import Callable, Iterable, Iterator, Sequence
 from typing import Any, Protocol, Union
 
 from .. import log
@@ -30,6 +30,8 @@ OF_CERTIFICATE = ("CERTIFICATE", "UNKNOWN_CA")
 CUT, CLOSED = (ConnectionResetError, BrokenPipeError, ssl.SSLEOFError), "closed by server"
 # How long to wait for a connection, and for what it says, in seconds.
 CONNECT, LONGEST = 10.0, 300.0
+# What each word of a command takes beside its bytes, here and there.
+AROUND = 64
 # From how many bytes on Redis may end a connection because of them.
 MUCH = 1 << 29
 
@@ -80,6 +82,14 @@ def packed_command(command: Command) -> bytes:
     """A command as it is sent. (The library takes longer than all else of a change.)"""
     words = [it if isinstance(it, bytes) else str(it).encode() for it in command]
     return b"".join([b"*%d\r\n" % len(words), *(b"$%d\r\n%b\r\n" % (len(it), it) for it in words)])
+
+
+def size_of(words: Iterable[str | bytes]) -> int:
+    """How many bytes words take at most."""
+    # (a sign of a text that isn't of ASCII has up to four)
+    return sum(
+        AROUND + (len(it) if isinstance(it, bytes) or it.isascii() else 4 * len(it)) for it in words
+    )
 
 
 class Calls(Peer, Protocol):

@@ -1,4 +1,5 @@
-"""Redis: rows and LSN in one MULTI, and no MULTI of a sink whose place another one has taken.
+"""Redis: rows and LSN in one MULTI, and no MULTI of a sink whose place another one has taken. Of a
+long commit there are several, of which the last one has the LSN.
 
 | Key | Has |
 |---|---|
@@ -7,6 +8,8 @@
 | `pgsub:feed` | what is kept, and of what it is a feed |
 | `pgsub:tables` | the definitions that were told last, and the names of tables |
 | `pgsub:loading` | while the rows of a base are written: the names of its tables |
+| `pgsub:part` | while a long commit is written: how much of it is there |
+| `pgsub:removed` | while rows of large tables are removed: the names of these |
 | `pgsub:message` | with `--as streams`: the stream of logical messages |
 
 The first two are watched from one MULTI to the next. So where another sink has begun, or has
@@ -19,74 +22,31 @@ import os
 import secrets
 import socket
 import time
-from collections.abc import Collection, Iterable, Iterator, Sequence, Sized
+from collections.abc import Sequence
 from typing import Any, Optional
 
-from ..errors import EngineError, Passing, Stopped, Unfit
+from ..errors import Damaged, EngineError, Passing, Stopped, Unfit
 from ..interruption import Check, at_most, never
 from ..json_texts import list_of, parsed, text_of
 from ..known_tables import KnownTables
-from ..reader.commits import Change, Commit, Message, Missed, TableLine
+from ..reader.commits import Commit, Message, Part, TableLine
 from ..reader.following import Read
 from ..texts import lsn_text, parse_lsn, shortened
 from .engine import Engine, Wanted, of_another
 from .first_rows import Base, numbered
 from .redis_calls import Calls, Command, Said, asked, raised, understood
 from .redis_disk import Disk, fields
-from .relations import Holder, Kept, Relations
+from .redis_form import Form, is_long
+from .redis_steps import Mark, Steps, read_mark
+from .relations import Kept, Relations
 
 LSN, SINK, FEED, TABLES, LOADING = (f"pgsub:{it}" for it in "lsn sink feed tables loading".split())
+PART, REMOVED = "pgsub:part", "pgsub:removed"
 WATCH, ASK = ("WATCH", LSN, SINK), ("MGET", LSN, SINK)
-# How many commands one MULTI gets where more commits are there.
-MOST = 20000
 # How often one MULTI is tried where somebody reads or trims a stream meanwhile.
 TRIES = 50
 # How often it is looked whether this is still the sink that writes, in seconds.
 OFTEN = 5.0
-
-
-class Form(Holder):
-    """How rows and changes are written: they wait for `commands`, or `clear` forgets them."""
-
-    name: str
-    is_keyed_only: bool
-    # what waits, each of it about one command
-    waiting: Sized
-
-    def change(self, kept: Kept, it: Change | Missed, commit: Commit) -> None:
-        """A change of a commit, or a row of a base."""
-
-    def message(self, it: Message, commit: Commit) -> None:
-        """A message of a commit."""
-
-    def watched(self) -> list[str]:
-        """The keys beside those of the sink that decide whether the commands can be run."""
-        return []
-
-    def prepare(self) -> None:
-        """Looks at these, once they are watched."""
-
-    def commands(self) -> list[Command]:
-        """What writes all that waits."""
-        raise NotImplementedError
-
-    def accepts(self, said: Said) -> bool:
-        """Whether one of these commands may end with this error."""
-        return False
-
-    def unkeyed(self) -> Collection[int]:
-        """The OIDs of tables whose rows that wait don't have a key each."""
-        return ()
-
-    def clear(self) -> None:
-        """Forgets what waits."""
-
-    def check_new(self) -> None:
-        """Looks at what there is before anything is begun."""
-
-    def removals(self, names: Iterable[str]) -> Iterator[Command]:
-        """What removes all that the tables with these names have."""
-        raise NotImplementedError
 
 
 class Writer:
@@ -126,6 +86,8 @@ class Redis(Engine):
         # the LSN that all is at as a text, None before there is one; the end of the last commit
         self.lsn: bytes | None = None
         self.end = 0
+        # how much is there of the commit that comes next
+        self.mark: Mark | None = None
         self.looked = time.monotonic()
         self.disk = Disk(calls)
 
@@ -153,10 +115,13 @@ class Redis(Engine):
         if tables is None:
             text = f"{self.calls.where}: something else has removed {TABLES}: remove {LSN} and the rows to begin anew"
             raise Unfit(text)
+        part, removed = self.two(("MGET", PART, REMOVED))
         with understood(self.calls.where):
             self.relations.load(tables.decode())
             at = parse_lsn(self.lsn.decode())
+            self.mark = read_mark(part) if part is not None else None
         self.reach(at)
+        self.remove(self.names_of(removed))
         return True
 
     def check_alone(self) -> None:
@@ -256,10 +221,9 @@ class Redis(Engine):
         self.check_lsn(self.two(ASK)[0], None)
         self.take_over()
         self.check_lsn(self.lsn, None)
-        with understood(self.calls.where):
-            said = asked(self.calls, [("MGET", LOADING)])[0][0] or b"[]"
-            left = [text_of(it) for it in list_of(parsed(said))]
-        self.transact([*form.removals(left), ("DEL", LOADING)], self.lsn)
+        loading, removed = map(self.names_of, self.two(("MGET", LOADING, REMOVED)))
+        self.remove([*loading, *removed])
+        self.transact([("DEL", LOADING, REMOVED)], self.lsn)
         form.check_new()
         tables = [it for it in map(self.relations.begin, base.tables()) if it]
         if tables:
@@ -269,59 +233,98 @@ class Redis(Engine):
                 self.load(base, kept)
         self.end = base.lsn
         self.relations.touch()
-        self.write([("SET", FEED, json.dumps(self.about)), ("DEL", LOADING)])
+        self.write(None, [("SET", FEED, json.dumps(self.about)), ("DEL", LOADING)])
 
     def load(self, base: Base, kept: Kept) -> None:
         """Writes a table's rows, in parts."""
         commit = Commit(base.lsn, base.lsn, 0, 0)
         for it in numbered(base, [kept.relation]):
             self.form.change(kept, it, commit)
-            if len(self.form.waiting) >= MOST:
+            if self.form.is_full():
                 self.check()
                 self.transact(self.commands(), self.lsn)
-                self.form.clear()
+                self.clear()
                 if kept.oid in self.relations.left:
                     return
 
     # ---- commits
 
     def take(self, commit: Commit, read: Read) -> None:
-        described = dict[int, Optional[Kept]]()
-        for part in read():
-            if isinstance(part, Message):
-                self.form.message(part, commit)
-                continue
-            oid = part.relation.oid
-            if isinstance(part, TableLine):
-                described[oid] = self.relations.describe(part.relation, commit.end)
-                continue
-            if not (kept := described[oid]):
-                kept = described[oid] = self.relations.take_up(part, commit.end)
-            elif self.relations.kept.get(oid) is not kept:
-                # (another table has had its name in between)
-                kept = described[oid] = self.relations.describe(part.relation, commit.end)
-            if kept:
-                self.form.change(kept, part, commit)
-        self.end = commit.end
-        if len(self.form.waiting) >= MOST:
+        form, by_parts = self.form, is_long(commit.changes, commit.bytes)
+        if not form.has_room(commit):
             self.settle()
+        steps = Steps(commit, read, self.mark, form.note, self.check, self.calls.where)
+        described = dict[int, Optional[Kept]]()
+        try:
+            for part in steps.parts():
+                self.put(part, commit, described)
+                if form.doomed() or by_parts and form.is_full():
+                    steps.prove()
+                    self.write(steps.reached())
+        except Damaged as damaged:
+            if not steps.readings:
+                raise
+            told = f"the feed was altered while a commit was written: {damaged}"
+            raise Passing(f"{self.calls.where}: {told}") from None
+        self.end = commit.end
+        if form.is_full() or self.mark:
+            self.settle()
+
+    def put(self, part: Part, commit: Commit, described: dict[int, Kept | None]) -> None:
+        """Has a part of a commit wait."""
+        if isinstance(part, Message):
+            return self.form.message(part, commit)
+        oid = part.relation.oid
+        if isinstance(part, TableLine):
+            described[oid] = self.relations.describe(part.relation, commit.end)
+            return
+        if not (kept := described[oid]):
+            kept = described[oid] = self.relations.take_up(part, commit.end)
+        elif self.relations.kept.get(oid) is not kept:
+            # (another table has had its name in between)
+            kept = described[oid] = self.relations.describe(part.relation, commit.end)
+        if kept:
+            self.form.change(kept, part, commit)
 
     def settle(self) -> None:
         if self.end != self.at:
-            self.write([])
+            self.write(None)
 
-    def write(self, more: Sequence[Command]) -> None:
-        """Writes what waits, with its LSN."""
+    def write(self, mark: Mark | None, more: Sequence[Command] = ()) -> None:
+        """Writes what waits, with the LSN of the last whole commit, and how much there is of the one
+        behind it."""
         text = lsn_text(self.end)
-        commands = [*self.commands(), *more, ("SET", LSN, text)]
+        part = ("SET", PART, mark.text()) if mark else ("DEL", PART)
+        commands = [*self.commands(), *more, part, ("SET", LSN, text)]
+        if names := self.form.doomed():
+            commands.append(("SET", REMOVED, json.dumps(names)))
         tables = self.relations.text() if self.relations.is_changed else None
         if tables is not None:
             commands.append(("SET", TABLES, tables))
         self.transact(commands, text.encode())
-        self.form.clear()
+        self.mark = mark
         if tables is not None:
             self.relations.note_saved(tables)
         self.reach(self.end)
+        self.clear()
+
+    def clear(self) -> None:
+        """Forgets what waited, and is written, and removes the tables that go with it."""
+        names = self.form.doomed()
+        self.form.clear()
+        self.remove(names)
+
+    def remove(self, names: list[str]) -> None:
+        """Removes what tables have, in several MULTIs, and then what says so."""
+        for some in self.form.removals(names):
+            self.transact(some, self.lsn)
+        if names:
+            self.transact([("DEL", REMOVED)], self.lsn)
+
+    def names_of(self, said: bytes | None) -> list[str]:
+        """The names that are kept of tables; none where nothing is."""
+        with understood(self.calls.where):
+            return [text_of(it) for it in list_of(parsed(said))] if said is not None else []
 
     def commands(self) -> list[Command]:
         """What writes all that waits, but for tables whose rows don't have a key each."""

@@ -2,7 +2,8 @@
 the values that aren't null.
 
 What waits is kept by keys: of several changes of one row only the last is written. Rows of a table
-that is truncated, gets another name or another shape are looked for among all keys.
+that is truncated, gets another name or another shape are looked for among all keys. Where they are
+more than one MULTI removes, they go a part at a time behind it.
 """
 
 import dataclasses
@@ -13,13 +14,14 @@ from typing import Union
 
 from ..errors import Unfit
 from ..formats.keys import NULL, row_text
-from ..reader.commits import XID, Cell, Cells, Change, Commit, Missed
-from .redis_calls import Calls, Command, Said, asked, understood
-from .redis_engine import Form
+from ..reader.commits import XID, Cell, Cells, Change, Commit, Event, Missed
+from .redis_calls import Calls, Command, Said, asked, size_of, understood
+from .redis_form import Form
 from .relations import Kept
 
-# How many keys one command has, and one step of a search looks at.
-KEYS, LOOKED = 500, 1000
+# How many keys one command has, one step of a search looks at, and one MULTI removes of a table
+# that has many.
+KEYS, LOOKED, LOT = 500, 1000, 5000
 MOVING = "pgsub:moving:"
 SIGNS = re.compile(r"([][*?^\\-])")
 
@@ -61,8 +63,11 @@ class Hashes(Form):
         # and the tables in which two rows have one, or null in it
         self.free = dict[int, set[str]]()
         self.broken = set[int]()
-        # by OID of a table that was truncated: the LSN at which that commit ends
-        self.emptied = dict[int, int]()
+        # by OID of a table that was truncated: the LSN at which that commit ends, and the number of
+        # the change
+        self.emptied = dict[int, tuple[int, int]]()
+        # the names of tables with more rows than what waits may name, which all are to be removed
+        self.left = list[str]()
         # what keys that were there before began with
         self.foreign = set[str]()
 
@@ -70,13 +75,22 @@ class Hashes(Form):
         self.waiting.clear()
         self.free.clear()
         self.broken.clear()
-        self.emptied.clear()
+        self.left.clear()
+        self.size = 0
 
     def accepts(self, said: Said) -> bool:
         # (a row that was evicted, or removed by somebody else, has no other key to get)
         return "no such key" in str(said)
 
+    def doomed(self) -> list[str]:
+        return list(self.left)
+
     # ---- rows
+
+    def put(self, key: str, value: Fields | None) -> None:
+        """Has a row wait, or that there is none."""
+        self.waiting[key] = value
+        self.size += size_of([key, *itertools.chain.from_iterable((value or {}).items())])
 
     def add(self, kept: Kept, cells: Cells, is_repair: bool) -> None:
         key = key_text(kept, cells)
@@ -85,7 +99,7 @@ class Hashes(Form):
                 self.broken.add(kept.oid)
             elif key not in self.waiting:
                 self.free.setdefault(kept.oid, set()).add(key)
-        self.waiting[key] = fields_of(kept, cells)
+        self.put(key, fields_of(kept, cells))
 
     def unkeyed(self) -> Collection[int]:
         """(All that is there is this sink's, so it is as it was when these came to wait.)"""
@@ -109,24 +123,36 @@ class Hashes(Form):
             self.remove(kept)
             self.free.pop(kept.oid, None)
             self.broken.discard(kept.oid)
-            self.emptied[kept.oid] = commit.end
+            self.note(it, commit)
         if it.before is not None:
-            self.waiting[key_text(kept, it.before)] = None
+            self.put(key_text(kept, it.before), None)
         if it.after is not None:
             # (what the copy had of a row that is repaired may never have been here)
-            is_repair = commit.xid == XID and self.emptied.get(kept.oid) != commit.end
-            self.add(kept, it.after, is_repair)
+            end, n = self.emptied.get(kept.oid, (0, 0))
+            self.add(kept, it.after, commit.xid == XID and (end != commit.end or it.n < n))
+
+    def note(self, it: Event, commit: Commit) -> None:
+        if isinstance(it, Change) and it.op == "t":
+            self.emptied[it.relation.oid] = commit.end, it.n
 
     def rows(self, name: str) -> dict[str, Stored | Fields]:
         """All rows of a table, as they are with what waits."""
+        found: dict[str, Stored | Fields] = {key: Stored(key) for key in self.stored(name)}
+        return {**found, **self.waiting_of(name)}
+
+    def waiting_of(self, name: str) -> dict[str, Stored | Fields]:
+        """The rows of a table that wait."""
         begin, found = name + ":", dict[str, Union[Stored, Fields]]()
-        for key in self.scan(SIGNS.sub(r"\\\1", begin) + "*"):
-            if key not in self.waiting:
-                found[key] = Stored(key)
         for key, value in self.waiting.items():
             if value is not None and key.startswith(begin):
                 found[key] = value
         return found
+
+    def stored(self, name: str) -> Iterator[str]:
+        """The keys of a table's rows that are there, and not to be altered by what waits."""
+        for key in self.scan(SIGNS.sub(r"\\\1", name + ":") + "*"):
+            if key not in self.waiting:
+                yield key
 
     def scan(self, pattern: str) -> Iterator[str]:
         cursor = b"0"
@@ -158,11 +184,19 @@ class Hashes(Form):
             )
 
     def remove(self, old: Kept) -> None:
-        self.waiting.update(dict.fromkeys(self.rows(old.name)))
+        for key in self.waiting_of(old.name):
+            self.put(key, None)
+        for key in self.stored(old.name):
+            if self.is_full():
+                self.left.append(old.name)
+                return
+            self.put(key, None)
 
-    def removals(self, names: Iterable[str]) -> Iterator[Command]:
+    def removals(self, names: Iterable[str]) -> Iterator[list[Command]]:
         for name in names:
-            yield from unlinks(list(self.rows(name)))
+            keys = self.stored(name)
+            while some := list(itertools.islice(keys, LOT)):
+                yield list(unlinks(some))
 
     def carry(self, old: Kept, new: Kept) -> None:
         """Gives rows another name, key or shape, in which a new column is null, so no field."""

@@ -7,8 +7,8 @@ from ..errors import Unfit
 from ..formats.keys import entry
 from ..reader.commits import Change, Commit, Message, Missed
 from ..texts import lsn_text
-from .redis_calls import Calls, Command, Said, raised, understood
-from .redis_engine import Form
+from .redis_calls import Calls, Command, Said, raised, size_of, understood
+from .redis_form import Form
 from .relations import Kept
 
 NONE = (0, 0)
@@ -30,12 +30,13 @@ class Streams(Form):
     def clear(self) -> None:
         self.waiting.clear()
         self.first.clear()
+        self.size = 0
 
     def add(self, stream: str, lsn: int, n: int, told: Mapping[str, str | bytes]) -> None:
         self.first.setdefault(stream, (lsn, n))
-        self.waiting.append(
-            ("XADD", stream, f"{lsn}-{n}", *(it for pair in told.items() for it in pair))
-        )
+        words = [it for pair in told.items() for it in pair]
+        self.waiting.append(("XADD", stream, f"{lsn}-{n}", *words))
+        self.size += size_of(words)
 
     def change(self, kept: Kept, it: Change | Missed, commit: Commit) -> None:
         self.add(kept.name, commit.end, it.n, entry(it))
@@ -76,6 +77,6 @@ class Streams(Form):
     def commands(self) -> list[Command]:
         return list(self.waiting)
 
-    def removals(self, names: Iterable[str]) -> Iterator[Command]:
+    def removals(self, names: Iterable[str]) -> Iterator[list[Command]]:
         for name in names:
-            yield ("UNLINK", name)
+            yield [("UNLINK", name)]
