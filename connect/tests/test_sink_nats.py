@@ -7,6 +7,7 @@ import json
 import re
 import socket
 import unittest
+import weakref
 from typing import Any
 from unittest import mock
 
@@ -16,7 +17,9 @@ from pgsub_connect.store.export import ExportSettings, export_store
 from pgsub_feed.errors import EngineError, FileError, Passing, Stopped, TooLarge, Unfit, UsageError
 from pgsub_feed.formats.keys import subject
 from pgsub_feed.interruption import never
+from pgsub_feed.reader.commits import Commit
 from pgsub_feed.sinks.connecting import is_loopback
+from pgsub_feed.sinks.engine import whole
 from pgsub_feed.sinks.nats_engine import each_server
 from pgsub_feed.sinks.nats_messages import FIRST, read_id
 from pgsub_feed.sinks.nats_wire import Wire, header_bytes, read_headers
@@ -204,6 +207,25 @@ class GoesOn(NatsCase):
         with mock.patch("pgsub_feed.sinks.engine.ROOM", 100):
             self.fails(TooLarge, "0/200:1: a change of public.stock")
         self.assertEqual(len(self.server.ids()), 52)
+
+    def test_of_many_changes_not_all_are_kept(self) -> None:
+        """However short they are."""
+        held, most = set[int](), 0
+
+        def made(it: int) -> object:
+            nonlocal most
+            found = type("Made", (), {})()
+            held.add(it)
+            weakref.finalize(found, held.discard, it)
+            most = max(most, len(held))
+            return found
+
+        for count, few in ((9999, False), (10001, True)):
+            most = 0
+            commit = Commit(0x200, 0x100, 1000, count)
+            for _ in whole(commit, lambda: map(made, range(count)), never):
+                pass
+            self.assertEqual(most < 10, few)
 
     def test_a_change_that_is_too_large(self) -> None:
         self.take(insert("1", "a"))

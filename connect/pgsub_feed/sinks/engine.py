@@ -12,7 +12,6 @@ import errno
 import fcntl
 import hashlib
 import os
-import sys
 from collections.abc import Callable, Iterable, Iterator
 from typing import Any, Protocol, TypeVar
 
@@ -28,16 +27,17 @@ from ..texts import shortened
 from .connecting import Peer
 from .first_rows import Base
 
-# How many bytes of a commit are made into messages at once. A larger one is read twice.
-ROOM = 32 << 20
+# How many bytes and changes of a commit are made into messages at once: with schemas each of these
+# has many kilobytes. A larger one is read twice.
+ROOM, MANY = 8 << 20, 10000
 Message = TypeVar("Message")
 
 
 def whole(
-    commit: Commit, messages: Callable[[], Iterable[Message]], check: Check, most: int = sys.maxsize
+    commit: Commit, messages: Callable[[], Iterable[Message]], check: Check
 ) -> Iterator[Message]:
-    """A commit's messages, the first once all could be made, where they aren't too many."""
-    if commit.bytes <= ROOM and commit.changes <= most:
+    """A commit's messages, the first once all could be made. Of many not all are kept."""
+    if commit.bytes <= ROOM and commit.changes <= MANY:
         yield from list(messages())
         return
     for _ in messages():

@@ -33,8 +33,6 @@ from .kafka_client import AROUND, LARGEST, Cluster, parts_of, read_config
 KEY = b"pgsub"
 # Where the numbers begin of a base that was begun for the n-th time.
 ATTEMPT = 10**12
-# How many changes are made into messages at once: with schemas each has many kilobytes.
-CHANGES = 10000
 # After how many seconds the position is written once more, so that no retention removes it.
 OFTEN = 43200.0
 
@@ -123,7 +121,7 @@ class Kafka(Engine):
     # ---- commits
 
     def take(self, commit: Commit, read: Read) -> None:
-        messages = whole(commit, lambda: self.messages(commit, read), self.check, CHANGES)
+        messages = whole(commit, lambda: self.messages(commit, read), self.check)
         for message in messages:
             self.send(message, commit.end)
         self.end = commit.end
