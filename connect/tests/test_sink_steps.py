@@ -355,8 +355,11 @@ class Replaced(StepsCase):
             (many(35, 1), 0x200, "that has other changes"),
         ):
             self.instead(*lines, at=at)
-            self.fails(Unfit, f"{text}: take another database, or begin anew")
+            self.fails(Unfit, f"{text}: remove pgsub:lsn and the rows to begin anew")
             self.assertEqual(self.data(), before)
+        self.server.data.clear()
+        self.run_it()
+        self.assertEqual((len(self.server.rows()), self.server.at()), (36, "0/200"))
 
     def test_the_same_elsewhere_in_a_segment(self) -> None:
         """As one that comes again after a crash: its definitions may stand elsewhere."""

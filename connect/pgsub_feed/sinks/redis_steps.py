@@ -45,7 +45,7 @@ def read_mark(text: bytes) -> Mark:
 
 
 def checksum(it: Event | None) -> int:
-    """That of a message or change; 0 of none."""
+    """That of a message or change, wherever its definition stands; 0 of none."""
     if it is None:
         return 0
     told = [it.lsn, it.prefix, content_of(it)] if isinstance(it, Message) else entry(it)
@@ -78,7 +78,7 @@ class Steps:
     def other(self, found: str) -> Unfit:
         end = lsn_text(self.mark.end) if self.mark else ""
         text = f"it has a part of a commit that ends at {end}, and in the feed {found}"
-        return Unfit(f"{self.where}: {text}: take another database, or begin anew")
+        return Unfit(f"{self.where}: {text}: remove pgsub:lsn and the rows to begin anew")
 
     def parts(self) -> Iterator[Part]:
         """Them. The definition of a table comes before the first change of it that is given."""
