@@ -1345,10 +1345,10 @@ BUGS = (
         ("test_sink_nats",),
     ),
     Bug(
-        "each change of a commit is a line of its own version",
+        "a document's line is where its first change is",
         "pgsub_feed/formats/bulk.py",
-        "                other = left.pop((index, row_id), None)\n",
-        "                other = left.get((index, row_id))\n",
+        "        other = self.found.pop((index, row_id), None)\n",
+        "        other = self.found.get((index, row_id))\n",
         ("test_feed_printing",),
     ),
     Bug(

@@ -40,7 +40,8 @@ first rows, or those of an export. An engine that is away is waited for, unless 
 Redis: a hash's fields are the columns that aren't null, and `pgsub:lsn` has the LSN, of the same MULTI. Tables of schemas but `public` are
 called `schema.table`; in these names `%`, `:` and `.` are %25, %3A and %2E, in the values of keys `%` and `:` are %25 and %3A, and null is
 %null. A table's rows go with it to another name or shape, by the names of its columns. What lost its name to another table, as one that was
-dropped does, is `pgsub:old:OID` until it has one again. A sink that is started ends one that writes there. A commit is kept in memory.
+dropped does, is `pgsub:old:OID` until it has one again. A sink that is started ends one that writes there. A long commit is
+written in several steps, `pgsub:lsn` last.
 The certificate of rediss:// has to be the host's, unless the URL has `?ssl_check_hostname=False`; `ssl_ca_certs=FILE` has who may sign it,
 `ssl_certfile=FILE` and `ssl_keyfile=FILE` the sink's own. One that isn't right ends the sink.
 The key of a table with REPLICA IDENTITY FULL, or another index, is the primary key that the follower of the store has seen, the store beside
