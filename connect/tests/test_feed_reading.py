@@ -408,6 +408,46 @@ class Cutting(Case):
         self.assertEqual(commit.end, 0x300)
 
 
+class Ahead(Case):
+    """Commits are read ahead, several at once."""
+
+    def test_a_line_that_was_written_since(self) -> None:
+        self.feed.commit(0x100, [insert("1", "a")])
+        size = self.feed.size
+        text = self.feed.text(0x200, [insert("2", "b")])
+        self.feed.put_behind(256, text[256:])
+        reader = self.reader()
+        self.assertEqual(getattr(reader.next(), "end", None), 0x100)
+        with open(self.file(), "r+b") as file:
+            file.seek(size)
+            file.write(text)
+        commit = reader.next()
+        assert commit
+        self.assertEqual((commit.end, len([*reader.parts(commit)])), (0x200, 2))
+
+    def test_commits_larger_than_what_is_read_at_once(self) -> None:
+        ends = range(0x100, 0x900, 0x100)
+        for end in ends:
+            self.feed.commit(end, [insert(str(end), "x" * (100 * end))])
+        with mock.patch("pgsub_feed.reader.segments.AHEAD", 40000):
+            found = [it.after for it in self.parts() if isinstance(it, Change)]
+        self.assertEqual(found, [[str(end), "x" * (100 * end)] for end in ends])
+
+    def test_a_definition_is_read_of_what_the_commit_was_read_of(self) -> None:
+        self.feed.commit(0x100, [insert("1", "x" * 100000)])
+        before = self.feed.size
+        self.feed.commit(0x200, [insert("2", "b")])
+        reader = self.reader(0x100)
+        commit = reader.next()
+        assert commit
+        with open(self.file(), "r+b") as file:
+            file.seek(before)
+            file.write(bytes(300))
+        with self.assertRaises(Damaged) as caught:
+            list(reader.parts(commit))
+        self.assertIn("was cut while it was read", str(caught.exception))
+
+
 class Own(Case):
     """Commits of the connector's own, which don't come again where they are cut off."""
 
@@ -443,6 +483,21 @@ class Own(Case):
         self.feed.commit(0x180, [insert("3", "c")])
         self.feed.confirm(0x200)
         self.assertEqual([getattr(reader.next(), "end", None) for _ in range(2)], [0x180, None])
+
+    def test_one_in_the_place_of_another_that_was_read_ahead(self) -> None:
+        self.feed.commit(0x100, [insert("1", "a")])
+        before = self.file().stat().st_size
+        self.own(0x200, insert("2", "b"))
+        reader = self.reader()
+        self.assertEqual(getattr(reader.next(), "end", None), 0x100)
+        os.truncate(self.file(), before)
+        self.feed.at = 0x100
+        self.own(0x200, insert("3", "c"))
+        self.feed.confirm(0x200)
+        commit = reader.next()
+        assert commit
+        found = [it.after for it in reader.parts(commit) if isinstance(it, Change)]
+        self.assertEqual((commit.end, found), (0x200, [["3", "c"]]))
 
     def test_the_segment_of_one_is_removed(self) -> None:
         """What a reader still has open isn't the feed any more."""

@@ -3,11 +3,13 @@
 import binascii
 import contextlib
 import functools
+import itertools
 import json
+import operator
 import re
 import zlib
 from collections.abc import Callable, Iterable, Iterator, Sequence
-from typing import Any, NoReturn, cast
+from typing import Any, NamedTuple, NoReturn, cast
 
 from ..errors import COUNTS, LINE, UNDESCRIBED, WIDTH, Damaged
 from ..json_texts import GREATEST, GREATEST_OID, lsn_of, object_of, signed_of, text_of, whole_of
@@ -23,6 +25,8 @@ HEAD_SIZE, COMMIT_SIZE = 1024, 256
 MOST_DEFINITIONS, DEFINITION = 10000, b'{"op":"table",'
 # How the line of a message begins, as it is written, and its op.
 MESSAGE, OF_MESSAGE = b'{"op":"m",', "m"
+# How a cell begins that is no text.
+BINARY = b'{"hex":'
 # How the line of a change begins, as it is written: it names where its definition stands.
 NAMING = re.compile(rb'\{"op":"\w","at":(\d+),')
 # The line of a commit as it is written.
@@ -31,26 +35,34 @@ PLAIN = re.compile(
     rb'\{"end":%b,"prev":%b,"bytes":(\d+),"changes":(\d+),"lsn":(?:%b,"xid":(\d+),"ts_us":(-?\d+)|null,"xid":null,"ts_us":null),"crc":(\d+)\} *\n'
     % (LSN, LSN, LSN)
 )
-decoded = json.JSONDecoder().decode
+decoded = json.JSONDecoder().raw_decode
 # What stands before its checksum, which is that of all before this, and of the lines that follow.
 CRC = b',"crc":'
+# What may stand around a text in JSON.
+BLANKS = " \t\n\r"
 # What may be the escape of half of a pair.
 SURROGATE = re.compile(r"\\u[dD]")
 SENT = {str, type(None)}
 are_sent = SENT.issuperset
+are_lists, chained = {list}.issuperset, itertools.chain.from_iterable
 # (a call of `Change` takes twice as long)
 as_change = cast(Callable[[tuple[object, ...]], Change], functools.partial(tuple.__new__, Change))
+as_commit = cast(Callable[[tuple[object, ...]], Commit], functools.partial(tuple.__new__, Commit))
+# What the line of a change has, but that of one that found no row.
+of_change = operator.itemgetter("op", "at", "n", "before", "after")
 # Which rows each change lacks: the one before it, and the one after it.
 NO_ROWS = {"c": (True, False), "u": (False, False), "d": (False, True), "t": (True, True)}
 
 
 def parsed(content: bytes) -> Any:
     """A text in JSON, whose strings are UTF-8. A ValueError says that it is none."""
-    text = content.decode()
+    text = content.decode().lstrip(BLANKS)
     try:
-        found = decoded(text)
+        found, end = decoded(text)
     except RecursionError:
         raise ValueError from None
+    if end < len(text) and text[end:].strip(BLANKS):
+        raise ValueError
     if "\\u" in text and SURROGATE.search(text):
         # (half of a pair has no encoding)
         json.dumps(found, ensure_ascii=False).encode()
@@ -92,7 +104,8 @@ def read_commit(line: bytes) -> Commit | commits.Closing:
         end, prev, size, changes, final, xid, time, crc = plain.groups()
         about = (plain_lsn(final), int(xid), int(time)) if final else (None, None, None)
         sums = int(crc), zlib.crc32(line[: plain.start(8) - len(CRC)])
-        return Commit(plain_lsn(end), plain_lsn(prev), int(size), int(changes), *about, *sums)
+        counts = int(size), int(changes)
+        return as_commit((plain_lsn(end), plain_lsn(prev), *counts, *about, *sums, None))
     return read_commit_object(line)
 
 
@@ -163,6 +176,11 @@ def summed(
     for piece in pieces:
         crc = zlib.crc32(piece, crc)
         yield piece
+    check_sum(commit, crc, fault)
+
+
+def check_sum(commit: Commit, crc: int, fault: Callable[[str], Damaged]) -> None:
+    """Rejects a commit whose bytes have another checksum than its line tells."""
     if crc != commit.crc:
         text = f"the commit that ends at {commit.text()} isn't as it was written: its bytes have the checksum {crc}, and its line says {commit.crc}"
         raise fault(text)
@@ -194,6 +212,15 @@ def named_by(line: bytes) -> int | None:
     return None
 
 
+class Place(NamedTuple):
+    """A definition that changes name, its OID and how many columns it has."""
+
+    table: TableLine
+    relation: Relation
+    oid: int
+    width: int
+
+
 class Decoder:
     """Reads the lines of commits: the messages first. Before the first change of a relation in a
     commit it gives the definition, wherever that stands."""
@@ -201,7 +228,9 @@ class Decoder:
     def __init__(self) -> None:
         # definitions by their lines, and those of the segment by the offsets that changes name
         self.known: dict[bytes, TableLine] = {}
-        self.places: dict[int, TableLine] = {}
+        self.places: dict[int, Place] = {}
+        # whether cells came that are no texts: then it is looked for others first
+        self.has_binary = False
 
     def begin(
         self,
@@ -233,8 +262,68 @@ class Decoder:
 
     def read(self, lines: Sequence[bytes]) -> list[Part]:
         """What the next lines say, which have lost their ends."""
+        return self.read_text(b"[" + b",".join(lines) + b"]", len(lines), lambda: lines)
+
+    def read_content(self, content: bytes) -> list[Part]:
+        """The same of lines with their ends."""
+        # (no line has one in it: those of a text are escaped)
+        text, count = content[:-1].replace(b"\n", b","), content.count(b"\n")
+        return self.read_text(b"[" + text + b"]", count, lambda: content.split(b"\n")[:-1])
+
+    def read_text(
+        self, text: bytes, count: int, lines: Callable[[], Sequence[bytes]]
+    ) -> list[Part]:
+        """The same of so many lines, which a text has as a list."""
+        try:
+            objects = parsed(text)
+            if len(objects) != count:
+                raise ValueError
+        except ValueError:
+            self.find(lines())
+        try:
+            if self.has_binary and BINARY in text:
+                raise ValueError
+            parts = self.plain(objects)
+        except (ValueError, KeyError, TypeError):
+            self.has_binary = self.has_binary or BINARY in text
+            return self.read_each(lines(), objects)
+        self.offset += len(text) - 1 if count else 0
+        return parts
+
+    def plain(self, objects: Sequence[Any]) -> list[Part]:
+        """What lines say, each of which is an insert, an update or a delete of texts and nulls, of a
+        definition that is known. An error says that one isn't, and nothing was read."""
+        # (a call of `list[Part]` takes as long as a line)
+        parts: list[Part] = []
+        rows: list[Any] = []
+        n, places, described = self.n, self.places, self.described.copy()
+        for op, at, told, before, after in map(of_change, objects):
+            table, relation, oid, width = places[at]
+            if described.get(oid) is not table:
+                described[oid] = table
+                parts.append(table)
+            if op == "u":
+                is_whole = len(before) == len(after) == width
+                rows += before, after
+            elif op == "c":
+                is_whole = before is None and len(after) == width
+                rows.append(after)
+            else:
+                is_whole = op == "d" and after is None and len(before) == width
+                rows.append(before)
+            if not is_whole or told != n or type(told) is not int:
+                raise ValueError
+            n += 1
+            parts.append(as_change((op, relation, told, before, after)))
+        if not are_lists(map(type, rows)) or not are_sent(map(type, chained(rows))):
+            raise ValueError
+        self.n, self.described = n, described
+        return parts
+
+    def read_each(self, lines: Sequence[bytes], objects: Sequence[Any]) -> list[Part]:
+        """The same of any lines."""
         parts, described = list[Part](), self.described
-        for line, found in zip(lines, self.objects(lines), strict=True):
+        for line, found in zip(lines, objects, strict=True):
             try:
                 op = found["op"]
                 if op == OF_MESSAGE:
@@ -254,16 +343,6 @@ class Decoder:
                 ) from None
             self.offset += len(line) + 1
         return parts
-
-    def objects(self, lines: Sequence[bytes]) -> list[Any]:
-        try:
-            # (no line has one in it: those of a text are escaped)
-            objects: list[Any] = parsed(b"[" + b",".join(lines) + b"]")
-            if len(objects) != len(lines):
-                raise ValueError
-        except ValueError:
-            self.find(lines)
-        return objects
 
     def find(self, lines: Sequence[bytes]) -> NoReturn:
         """Raises for the first line that is no JSON."""
@@ -286,7 +365,8 @@ class Decoder:
     def table_of(self, found: dict[str, Any]) -> TableLine:
         """The definition of a change."""
         at = found["at"]
-        table = self.places.get(at) or self.read_table(whole_of(at))
+        place = self.places.get(at)
+        table = place.table if place else self.read_table(whole_of(at))
         if table is None:
             why = f"no definition stands at {at}, where the change says so"
             raise self.fault(UNDESCRIBED, self.offset, why)
@@ -306,7 +386,8 @@ class Decoder:
 
     def tell(self, at: int, table: TableLine) -> None:
         """Says which definition stands at an offset of the segment."""
-        self.places[at] = table
+        relation = table.relation
+        self.places[at] = Place(table, relation, relation.oid, len(relation.shape.columns))
 
     def forget(self) -> None:
         """Goes on in another segment."""

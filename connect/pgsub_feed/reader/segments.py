@@ -17,6 +17,7 @@ again. So these are taken once they are confirmed.
 import bisect
 import contextlib
 import os
+import zlib
 from collections.abc import Iterable, Iterator
 
 from ..errors import CHECKSUM, COMMIT_LINE, COUNTS, NOT_A_FEED, ORDER, OTHER_FEED, Damaged, Unfit
@@ -28,6 +29,7 @@ from .lines import (
     COMMIT_SIZE,
     HEAD_SIZE,
     Decoder,
+    check_sum,
     named_by,
     no_head,
     read_commit,
@@ -38,6 +40,8 @@ from .lines import (
 )
 
 CHUNK = 1 << 20
+# How many bytes are read at least where commits are read one after the other: most are small.
+AHEAD = 1 << 16
 # How many bytes are read for the line of a definition, at first and at most: 1,600 columns with names
 # of 63 characters, of which each may be written as six.
 TABLE_SIZES = 1 << 13, 1 << 20
@@ -48,6 +52,8 @@ class Segment:
 
     def __init__(self, folder: str, base: int, name: str) -> None:
         self.base, self.path = base, os.path.join(folder, name)
+        # what was read ahead, and at which offset that begins
+        self.ahead, self.ahead_at = b"", 0
         self.file = os.open(self.path, os.O_RDONLY | os.O_CLOEXEC)
         with undone_by(self.close):
             self.head = self.read_head()
@@ -66,6 +72,24 @@ class Segment:
     def read(self, offset: int, size: int) -> bytes:
         return os.pread(self.file, size, offset)
 
+    def read_on(self, offset: int, size: int) -> bytes:
+        """The same of bytes that may have been read ahead, where all of them were: so a commit may
+        be one that was there a moment ago, as where it is read more slowly. More than these are read
+        where they go on from others: who passes over large commits needs their lines alone."""
+        at = offset - self.ahead_at
+        if not 0 <= at <= len(self.ahead) - size:
+            most = max(size, AHEAD) if 0 <= at <= len(self.ahead) else size
+            self.ahead, self.ahead_at, at = self.read(offset, most), offset, 0
+        return self.ahead[at : at + size]
+
+    def look_again(self) -> None:
+        """Forgets what was read ahead."""
+        self.ahead, self.ahead_at = b"", 0
+
+    def has(self, end: int) -> bool:
+        """Whether all bytes up to an offset are there."""
+        return end <= self.ahead_at + len(self.ahead) or end <= self.size()
+
     def size(self) -> int:
         # (all is read by offset, so where the file is doesn't matter)
         return os.lseek(self.file, 0, os.SEEK_END)
@@ -73,9 +97,12 @@ class Segment:
     def commit(self, offset: int) -> Commit | Closing | None:
         """The line of a commit or of the end at an offset; None where it isn't there yet: some of it
         is zeros, or missing, whatever stands behind it."""
-        line = self.read(offset, COMMIT_SIZE)
+        line = self.read_on(offset, COMMIT_SIZE)
         # (the line of a long commit is written last; one of zeros may be what a power cut has left)
-        if len(line) < COMMIT_SIZE or b"\0" in line:
+        if 0 in line:
+            self.look_again()
+            line = self.read(offset, COMMIT_SIZE)
+        if len(line) < COMMIT_SIZE or 0 in line:
             return None
         try:
             return read_commit(line)
@@ -89,14 +116,22 @@ class Segment:
     def torn(self, offset: int) -> bytes | None:
         """The line at an offset, where a part of it is zeros."""
         line = self.read(offset, COMMIT_SIZE)
-        is_torn = len(line) == COMMIT_SIZE and b"\0" in line and line.strip(b"\0")
+        is_torn = len(line) == COMMIT_SIZE and 0 in line and line.strip(b"\0")
         return line if is_torn else None
 
     def check(self, commit: Commit, offset: int) -> list[bytes]:
         """Rejects a commit whose bytes aren't as written. Returns them, unless there are many."""
-        at, content = offset - COMMIT_SIZE, self.pieces(offset, offset + commit.bytes)
-        pieces = summed(commit, content, lambda told: Damaged(CHECKSUM, self.path, at, told))
-        return [it for it in pieces if commit.bytes <= CHUNK]
+        at, size = offset - COMMIT_SIZE, commit.bytes
+
+        def fault(told: str) -> Damaged:
+            return Damaged(CHECKSUM, self.path, at, told)
+
+        if size <= AHEAD and len(content := self.read_on(offset, size)) == size:
+            # (as of most commits)
+            check_sum(commit, zlib.crc32(content, commit.begun), fault)
+            return [content]
+        pieces = summed(commit, self.pieces(offset, offset + size), fault)
+        return [it for it in pieces if size <= CHUNK]
 
     def lines(self, pieces: Iterable[bytes], end: int) -> Iterable[list[bytes]]:
         """The lines of bytes up to an offset without their ends, some at a time."""
@@ -114,9 +149,12 @@ class Segment:
 
     def line(self, offset: int) -> bytes | None:
         """The line at an offset without its end, None where it has none."""
+        at = offset - self.ahead_at
+        if at >= 0 and (end := self.ahead.find(b"\n", at)) >= 0:
+            return self.ahead[at:end]
         for size in TABLE_SIZES:
-            line, end, _ = self.read(offset, size).partition(b"\n")
-            if end:
+            line, has_end, _ = self.read(offset, size).partition(b"\n")
+            if has_end:
                 return line
         return None
 
@@ -188,6 +226,8 @@ class Reader:
                 raise Unfit(
                     f"{self.folder}: the segment that begins at {lsn_text(cursor.segment)} is gone"
                 )
+        if self.segment:
+            self.segment.look_again()
         self.offset, self.last, self.at = cursor.offset, cursor.at, cursor.at
         self.tested, self.untested = 0, []
 
@@ -220,12 +260,10 @@ class Reader:
         confirmed = 0
         while (segment := self.segment or self.find()) is not None:
             found = segment.commit(self.offset)
-            if (
-                isinstance(found, Commit)
-                and self.offset + COMMIT_SIZE + found.bytes <= segment.size()
-            ):
+            if isinstance(found, Commit) and segment.has(self.offset + COMMIT_SIZE + found.bytes):
                 if found.xid == XID and found.end > max(confirmed, self.at or 0):
                     confirmed = read_confirmed(self.folder) or 0
+                    segment.look_again()
                     self.look_after(segment)
                     if confirmed < found.end:
                         return None
@@ -330,7 +368,10 @@ class Reader:
     def own_line(self, commit: Commit) -> bytes:
         """The line of the commit that was taken last."""
         assert self.segment
-        return self.segment.read(self.body - COMMIT_SIZE, COMMIT_SIZE)
+        at, ahead_at = self.body - COMMIT_SIZE, self.segment.ahead_at
+        if at >= ahead_at:
+            return self.segment.read_on(at, COMMIT_SIZE)
+        return self.segment.read(at, COMMIT_SIZE)
 
     def raw(self, commit: Commit) -> Iterable[list[bytes]]:
         """The lines of the commit that was taken last, without their ends, some at a time."""
@@ -345,12 +386,28 @@ class Reader:
 
     def line_at(self, at: int) -> bytes | None:
         """The line at an offset of the segment, in the commit that was taken last or before it."""
+        line = self.find_line(at)
+        if at < self.body:
+            self.check_kept()
+        return line
+
+    def find_line(self, at: int) -> bytes | None:
+        """The same, which may be of other commits than the one that was taken was read with."""
         assert self.segment
         if not HEAD_SIZE <= at < self.offset:
             return None
         if at < self.tested:
             self.test(self.segment, at)
         return self.segment.line(at)
+
+    def check_kept(self) -> None:
+        """Rejects the commit that was taken last where it isn't there any more as it was read, which
+        may have been ahead."""
+        assert self.segment
+        segment, kept = self.segment, b"".join(self.kept)
+        if segment.read(self.body, len(kept)) != kept:
+            what = "the segment was cut while it was read"
+            raise Damaged(COUNTS, segment.path, self.body, what)
 
     def test(self, segment: Segment, at: int) -> None:
         """Tests the commit that has an offset: one that was passed over."""
@@ -364,10 +421,11 @@ class Reader:
         that stands there."""
         named = dict.fromkeys(named_by(it) for lines in self.raw(commit) for it in lines)
         for at in named:
-            if at is not None and (line := self.line_at(at)) is not None:
+            if at is not None and (line := self.find_line(at)) is not None:
                 yield at, line
+        self.check_kept()
 
-    def parts(self, commit: Commit) -> Iterator[Part]:
+    def parts(self, commit: Commit) -> Iterable[Part]:
         """What the commit that was taken last has, in order."""
         assert self.segment
         path, body, decoder = self.segment.path, self.body, self.decoder
@@ -376,9 +434,18 @@ class Reader:
             lambda number, offset, what: Damaged(number, path, body + offset, what),
             self.line_at,
         )
-        for lines in self.raw(commit):
-            yield from decoder.read(lines)
+        if len(self.kept) != 1 or not self.kept[0].endswith(b"\n"):
+            return self.read_parts(commit)
+        # (as of most commits)
+        parts = decoder.read_content(self.kept[0])
         decoder.finish()
+        return parts
+
+    def read_parts(self, commit: Commit) -> Iterator[Part]:
+        """The same of a commit of many bytes, some at a time."""
+        for lines in self.raw(commit):
+            yield from self.decoder.read(lines)
+        self.decoder.finish()
 
     def close(self) -> None:
         if self.segment:

@@ -95,7 +95,7 @@ class Whole(Reader):
         # (who reads has some of them, and a feed's first rows are written once)
         return bool(self.sections) and not self.at
 
-    def parts(self, commit: Commit) -> Iterator[Part]:
+    def parts(self, commit: Commit) -> Iterable[Part]:
         if commit.base is None:
             return super().parts(commit)
         assert self.sections
