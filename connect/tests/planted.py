@@ -1200,14 +1200,14 @@ BUGS = (
     Bug(
         "changes are joined over a unique index of the user's",
         "pgsub_feed/tables/applier.py",
-        "if kept and is_joined and not has_unique_indexes(self.db, kept.name):",
+        "if kept and is_joined and not self.added.has_unique_indexes(kept.name):",
         "if kept and is_joined:",
         ("test_feed_joining",),
     ),
     Bug(
         "changes are joined though a trigger sees them",
         "pgsub_feed/tables/applier.py",
-        "self.is_free = self.joins and not has_triggers(self.db)",
+        "self.is_free = self.joins and not self.added.has_triggers()",
         "self.is_free = self.joins",
         ("test_feed_joining",),
     ),

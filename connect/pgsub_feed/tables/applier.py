@@ -13,12 +13,13 @@ from typing import Protocol
 
 from ..interruption import Check
 from ..reader.commits import XID, Cells, Change, Commit, Part, TableLine
+from ..reader.lines import as_change
 from ..relation import Relation
 from ..texts import identifier
 from .file import OLDER, Rows
 from .set_aside import CANT_KEEP, Unkept, reason
 from .table import Kept
-from .user_sql import has_triggers, has_unique_indexes
+from .user_sql import Added
 from .values import Value
 
 # How many changes of one kind are made at once, and how many rows wait at most.
@@ -71,21 +72,22 @@ class Joined:
 
     def add(self, change: Change) -> bool:
         op, _, _, before, after = change
-        if len(self.rows) >= MOST_ROWS:
+        rows, key = self.rows, self.key
+        if len(rows) >= MOST_ROWS:
             return False
         if op == "c" and after is not None:
-            return self.put(self.key(after), after)
+            return self.put(key(after), after)
         if before is None:
             return False
-        old = self.key(before)
-        was = self.rows.get(old)
-        if after is not None and self.key(after) == old:
+        old = key(before)
+        was = rows.get(old)
+        if after is not None and key(after) == old:
             if was is None:
-                self.rows[old] = before, after
+                rows[old] = before, after
             elif was[1] != before:
                 return False
             else:
-                self.rows[old] = was[0], after
+                rows[old] = was[0], after
             return True
         return self.move(old, was, before, after)
 
@@ -125,7 +127,7 @@ class Joined:
         kinds: dict[str, list[Change]] = {"d": [], "u": [], "c": []}
         for number, (before, after) in enumerate(rows.values()):
             op = "d" if after is None else "u" if before is not None else "c"
-            kinds[op].append(Change(op, self.relation, number, before, after))
+            kinds[op].append(as_change((op, self.relation, number, before, after)))
         yield from filter(None, kinds.values())
 
 
@@ -147,6 +149,7 @@ class Applier:
 
     def __init__(self, rows: Rows, check: Check, joins: bool = False) -> None:
         self.rows, self.db, self.check, self.joins = rows, rows.db, check, joins
+        self.added = Added(rows.db)
         # by OID what was told of a table last, the table, and its changes that wait
         self.told: dict[int, Relation] = {}
         self.kept: dict[int, Kept | None] = {}
@@ -163,13 +166,18 @@ class Applier:
         self.forget()
 
     def forget(self) -> None:
-        """Forgets what waits, and what is known of the tables: a transaction begins."""
+        """Forgets what waits, and what is known of the tables, as where a transaction is undone."""
+        self.added.forget()
+        self.begin()
+
+    def begin(self) -> None:
+        """Forgets what waits, and what was told of the tables: a transaction begins."""
         self.told.clear()
         self.kept.clear()
         self.waiting.clear()
         self.older.clear()
         # whether changes of different tables may be made in another order
-        self.is_free = self.joins and not has_triggers(self.db)
+        self.is_free = self.joins and not self.added.has_triggers()
 
     def apply(self, commit: Commit, parts: Iterable[Part]) -> None:
         """Makes a commit's changes within the caller's transaction, or has them wait."""
@@ -183,15 +191,35 @@ class Applier:
         self.each = 0 if commit.bytes > ROOM else commit.bytes // max(commit.changes, 1)
         self.truncated.clear()
         self.was_empty.clear()
-        for part in parts:
-            if isinstance(part, Change):
-                self.put(part)
-            elif isinstance(part, TableLine):
-                if self.told.get(part.relation.oid) is not part.relation:
-                    self.describe(part.relation)
+        self.put_parts(commit, parts)
         if self.is_repair or not self.is_free or self.rows.is_init_due:
             self.finish()
             self.forget()
+
+    def put_parts(self, commit: Commit, parts: Iterable[Part]) -> None:
+        """Has a commit's changes wait, or makes them."""
+        # (where all of them have room none is counted by itself)
+        have_room = self.each > 0 and self.bytes + commit.bytes <= ROOM
+        waiting, told = self.waiting, self.told
+        for part in parts:
+            if isinstance(part, Change):
+                there = waiting.get(part.relation.oid)
+                if there is None or not there.add(part):
+                    self.put(part)
+                if not have_room:
+                    self.count(part)
+            elif isinstance(part, TableLine):
+                relation = part.relation
+                if told.get(relation.oid) is not relation:
+                    self.describe(relation)
+        if have_room:
+            self.bytes += commit.bytes
+
+    def count(self, change: Change) -> None:
+        """Makes the changes that wait where they have too many bytes with this one."""
+        self.bytes += self.each or size_of(change)
+        if self.bytes > ROOM:
+            self.flush()
 
     def finish(self) -> None:
         """Makes the changes that wait, and has the user's own SQL see them where it is due."""
@@ -215,6 +243,7 @@ class Applier:
         self.older = {oid for oid, it in self.kept.items() if it and it.name.startswith(OLDER)}
 
     def put(self, change: Change) -> None:
+        """Has a change wait, behind those of its table that do, or makes it."""
         oid = change.relation.oid
         if oid in self.older:
             # (another table has had its name in between, and nothing is told again)
@@ -230,9 +259,6 @@ class Applier:
             if not waiting.add(change):
                 del self.waiting[oid]
                 self.make_alone(change)
-        self.bytes += self.each or size_of(change)
-        if self.bytes > ROOM:
-            self.flush()
 
     def make_alone(self, change: Change) -> None:
         if change.op == "t":
@@ -250,7 +276,7 @@ class Applier:
         kept = self.kept[relation.oid] if self.is_free and not self.is_repair else None
         # (a key that only the catalog tells may be that of several rows for a while)
         is_joined = kept is not None and kept.target.is_keyed and not kept.primary
-        if kept and is_joined and not has_unique_indexes(self.db, kept.name):
+        if kept and is_joined and not self.added.has_unique_indexes(kept.name):
             return Joined(self.at, kept, relation)
         return Ordered(self.at)
 
@@ -321,18 +347,20 @@ class Applier:
         """Makes changes of one kind. A table whose key is none of SQLite's is made anew."""
         if kept.have_null_keys([it.after for it in changes if it.after]):
             kept = self.loosened(kept)
-        # (a single statement leaves nothing where it fails)
-        is_nested = len(changes) > 1 and kept.target.is_keyed
+        keeps = changes[0].op == "u" and kept.keeps_keys(changes)
+        # (a single statement leaves nothing where it fails, and none of rows whose keys stay fails
+        # for these, unless a trigger does)
+        is_nested = len(changes) > 1 and kept.target.is_keyed and not (keeps and self.is_free)
         if is_nested:
             self.db.execute("SAVEPOINT changes")
         try:
-            self.execute(kept, changes)
+            self.execute(kept, changes, keeps)
         except sqlite3.IntegrityError as error:
             if not (kept.target.is_keyed and kept.is_of_key(error)):
                 raise
             if is_nested:
                 self.db.execute("ROLLBACK TO changes")
-            self.execute(self.loosened(kept), changes)
+            self.execute(self.loosened(kept), changes, False)
         finally:
             # (a disk that is full may have ended the whole transaction)
             if is_nested and self.db.in_transaction:
@@ -342,7 +370,9 @@ class Applier:
         self.kept[kept.oid] = kept = self.rows.loosen(kept)
         return kept
 
-    def execute(self, kept: Kept, changes: list[Change]) -> None:
+    def execute(self, kept: Kept, changes: list[Change], keeps: bool) -> None:
+        """Runs the statements of changes of one kind. `keeps`: they are updates of which each finds
+        its row by a key that stays."""
         op = changes[0].op
         if op == "t":
             self.db.execute(kept.truncation)
@@ -354,11 +384,15 @@ class Applier:
             self.check_done(kept, len(changes), kept.target.insert(self.db, values))
             return
         kept.find_rows(self.db)
+        after = [it.after or () for it in changes]
+        if keeps:
+            self.run(kept, kept.change, kept.changed_keyed(after))
+            return
         before = [it.before or () for it in changes]
         if op == "d":
             self.run(kept, kept.deletion, kept.searched(before))
             return
-        changed = kept.changed(before, [it.after or () for it in changes])
+        changed = kept.changed(before, after)
         for keeps, some in itertools.groupby(changed, operator.itemgetter(0)):
             self.run(kept, kept.change if keeps else kept.update, [values for _, values in some])
 

@@ -188,7 +188,7 @@ class Rows:
     def as_told(self, relation: Relation) -> Kept | None:
         """The table of a relation, where it has its name and shape, and its known key."""
         kept = self.kept.get(relation.oid)
-        if kept is None or kept.relation != relation or kept.name.startswith(OLDER):
+        if kept is None or not kept.is_of(relation) or kept.name.startswith(OLDER):
             return None
         return None if self.keys.has_news(relation) else kept
 

@@ -101,7 +101,8 @@ class Typed:
     def values(self, cells: Sequence[Text]) -> list[Value]:
         """The values of rows, one row's after the other's, by their cells in the same order. A
         ValueError says that one isn't a value of its type."""
-        values, width = list[Value](cells), len(self.columns)
+        values: list[Value] = [*cells]
+        width = len(self.columns)
         if self.is_wider:
             values = [None] * (len(cells) // self.width * width)
         for place, column in enumerate(self.columns):

@@ -8,7 +8,7 @@ import sqlite3
 from collections.abc import Callable, Sequence
 from typing import cast
 
-from ..reader.commits import Cell
+from ..reader.commits import Cell, Change
 from ..relation import Relation
 from ..texts import identifier
 from .names import folded
@@ -103,7 +103,17 @@ class Kept(Valued):
         # (of one column the cell, of several their tuple)
         self.key: Callable[[Sequence[Cell]], object] = operator.itemgetter(*self.keys or (0,))
         self.has_index = False
+        # the definition that was found to be this one's last
+        self.same = relation
         self.write_statements()
+
+    def is_of(self, relation: Relation) -> bool:
+        """Whether it is the table of this definition."""
+        if relation is not self.same:
+            if relation != self.relation:
+                return False
+            self.same = relation
+        return True
 
     def rename(self, name: str) -> None:
         self.name = name
@@ -183,6 +193,18 @@ class Kept(Valued):
             else (False, values + self.searched([was])[0])
             for values, was, now in zip(new, before, after, strict=True)
         ]
+
+    def changed_keyed(self, after: Sequence[Sequence[Cell]]) -> list[list[Value]]:
+        """Of each row whose key stays the new values, then those that find it."""
+        found = self.found
+        return [values + [values[at] for at in found] for values in self.each(self.values(after))]
+
+    def keeps_keys(self, changes: Sequence[Change]) -> bool:
+        """Whether these updates find their rows by keys that stay."""
+        if not self.target.is_keyed:
+            return False
+        key = self.key
+        return all(key(it.before or ()) == key(it.after or ()) for it in changes)
 
     def each(self, values: list[Value]) -> list[list[Value]]:
         """The values of rows, by themselves."""

@@ -39,6 +39,42 @@ def has_unique_indexes(db: sqlite3.Connection, table: str) -> bool:
     return bool(db.execute(query, (table,)).fetchone())
 
 
+class Added:
+    """What a user has added to the tables of a file, looked at once for each state of its schema.
+
+    Whatever alters that, here or in another process, gives it another number. A transaction that is
+    rolled back takes its number back, which another state may get then: so all is forgotten there.
+    """
+
+    def __init__(self, db: sqlite3.Connection) -> None:
+        self.db, self.version = db, -1
+        self.triggers: bool | None = None
+        self.unique = dict[str, bool]()
+
+    def look(self) -> None:
+        """Forgets what was of another state of the schema."""
+        version = self.db.execute("PRAGMA schema_version").fetchone()[0]
+        if version != self.version:
+            self.forget()
+            self.version = version
+
+    def forget(self) -> None:
+        self.version, self.triggers = -1, None
+        self.unique.clear()
+
+    def has_triggers(self) -> bool:
+        self.look()
+        if self.triggers is None:
+            self.triggers = has_triggers(self.db)
+        return self.triggers
+
+    def has_unique_indexes(self, table: str) -> bool:
+        self.look()
+        if table not in self.unique:
+            self.unique[table] = has_unique_indexes(self.db, table)
+        return self.unique[table]
+
+
 class Init:
     """The statements of a file. They are run in the transaction that made or altered the table."""
 
