@@ -33,6 +33,9 @@ from .values import BOTH
 
 # What the name of an older table begins with whose name another one got.
 OLDER = OLD + " "
+# How many pages of 4 KiB the log gets until they go to the file: a page that changes again and again
+# goes there once.
+LOGGED = 4000
 # How long to wait for others that write the file or read it, in seconds.
 BUSY = 60.0
 
@@ -64,7 +67,8 @@ class Rows:
             raise FileError(f"{self.path}: SQLite can't keep a log beside the file there")
         # (what a power cut takes, the feed still has)
         settings = "synchronous = NORMAL", "legacy_alter_table = ON", "foreign_keys = OFF"
-        for pragma in (*settings, "cache_size = -32000"):
+        sizes = "cache_size = -32000", f"wal_autocheckpoint = {LOGGED}"
+        for pragma in (*settings, *sizes):
             self.db.execute(f"PRAGMA {pragma}")
         self.db.create_function(IS_MINUS_ZERO, 1, is_minus_zero, deterministic=True)
 
