@@ -1220,7 +1220,7 @@ BUGS = (
     ),
     Bug(
         "a row that was deleted and came again is taken for a new one",
-        "pgsub_feed/tables/applier.py",
+        "pgsub_feed/tables/waiting.py",
         "self.rows[key] = was and was[0], row",
         "self.rows[key] = None, row",
         ("test_feed_joining",),
@@ -1976,7 +1976,7 @@ BUGS = (
     ),
     Bug(
         "a table that comes again takes its name once other commits were told",
-        "pgsub_feed/tables/applier.py",
+        "pgsub_feed/tables/waiting.py",
         '        if change.op == "t":\n            return False\n',
         "",
         ("test_feed_asides",),
@@ -2018,7 +2018,7 @@ BUGS = (
     ),
     Bug(
         "a message behind changes is taken",
-        "pgsub_feed/reader/lines.py",
+        "pgsub_feed/reader/decoding.py",
         "if self.described or content is None or",
         "if content is None or",
         ("test_logical_messages",),

@@ -18,10 +18,11 @@ from pgsub_feed.reader.commits import Cell, Change
 from pgsub_feed.relation import Column, Relation, Shape
 from pgsub_feed.tables import applier as applier_module
 from pgsub_feed.tables import following
-from pgsub_feed.tables.applier import Applier, Joined
+from pgsub_feed.tables.applier import Applier
 from pgsub_feed.tables.file import Rows
 from pgsub_feed.tables.table import Kept
 from pgsub_feed.tables.user_sql import Added
+from pgsub_feed.tables.waiting import Joined
 
 from .feeds import delete, insert, table, truncate, update
 from .test_feed_tables import TablesCase
@@ -192,6 +193,15 @@ class Steps(TablesCase):
                     self.rows("SELECT count(*), sum(length(name)) FROM stock"), [(rows, size)]
                 )
                 self.assertTrue(0 < most < 10)
+        # (and of many commits)
+        for at in range(0, 100, 5):
+            self.take(*(update([str(it), text], [str(it), text + "y"]) for it in range(at, at + 5)))
+        most = 0
+        with mock.patch.object(Joined, "add", add), mock.patch.object(
+            applier_module, "ROOM", 1 << 17
+        ):
+            self.run_it()
+        self.assertTrue(0 < most < 10)
 
     def test_what_another_program_removed_is_still_found_out(self) -> None:
         self.take(insert("1", "a"), insert("2", "b"))

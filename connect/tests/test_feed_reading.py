@@ -429,7 +429,7 @@ class Ahead(Case):
         ends = range(0x100, 0x900, 0x100)
         for end in ends:
             self.feed.commit(end, [insert(str(end), "x" * (100 * end))])
-        with mock.patch("pgsub_feed.reader.segments.AHEAD", 40000):
+        with mock.patch("pgsub_feed.reader.segment.AHEAD", 40000):
             found = [it.after for it in self.parts() if isinstance(it, Change)]
         self.assertEqual(found, [[str(end), "x" * (100 * end)] for end in ends])
 
@@ -446,6 +446,58 @@ class Ahead(Case):
         with self.assertRaises(Damaged) as caught:
             list(reader.parts(commit))
         self.assertIn("was cut while it was read", str(caught.exception))
+
+
+class Known(Case):
+    """Lines of changes whose definition is known: all are tested together."""
+
+    LINE = b'{"op":"c","at":1280,"n":1,"before":null,"after":["3","c"]}'
+
+    def setUp(self) -> None:
+        super().setUp()
+        self.feed.commit(0x100, [insert("1", "a")])
+        self.feed.commit(0x200, [insert("2", "b"), insert("3", "c"), insert("4", "d")])
+
+    def read(self, line: bytes) -> list[Part]:
+        """What the second commit has with another line."""
+        text = self.file().read_bytes()
+        second = text.index(b'{"end":"0/200"')
+        self.assertEqual(text.count(self.LINE), 1)
+        last = text[second:].replace(self.LINE, line)
+        size = b'"bytes":%d' % (len(last) - 256)
+        front, back = re.sub(rb'"bytes":\d+', size, last[:256]).rstrip(), last[256:]
+        self.file().write_bytes(text[:second] + summed(front.ljust(255) + b"\n" + back))
+        reader = self.reader()
+        for commit in Poll(reader, False, never).commits():
+            found = list(reader.parts(commit))
+        return found
+
+    def test_other_cells(self) -> None:
+        found = self.read(self.LINE.replace(b'"c"]', b'{"hex":"00ff"}]'))
+        rows = [it.after for it in found if isinstance(it, Change)]
+        self.assertEqual(rows, [["2", "b"], ["3", b"\0\xff"], ["4", "d"]])
+
+    def test_what_is_wrong(self) -> None:
+        for old, new, told in (
+            (b'"c"]', b"7]", "no line of a commit"),
+            (b'"c"]', b'["c"]]', "no line of a commit"),
+            (b'["3","c"]', b'"3c"', "no line of a commit"),
+            (b'["3","c"]', b'{"3":1,"c":2}', "no line of a commit"),
+            (b'["3","c"]', b"null", "no line of a commit"),
+            (b'["3","c"]', b'["3"]', "a row of 1 cells"),
+            (b'"n":1', b'"n":2', "the change has number 2"),
+            (b'"n":1', b'"n":true', "no line of a commit"),
+            (b'"op":"c"', b'"op":"d"', "no line of a commit"),
+            (b'"op":"c"', b'"op":"u"', "no line of a commit"),
+            (b'"op":"c"', b'"op":"k"', "no line of a commit"),
+            (b'"at":1280', b'"at":1281', "no definition stands at 1281"),
+            (b"}", b"},{}", "no line of a commit"),
+        ):
+            with self.subTest(new=new):
+                before = self.file().read_bytes()
+                with self.assertRaisesRegex(Damaged, told):
+                    self.read(self.LINE.replace(old, new))
+                self.file().write_bytes(before)
 
 
 class Own(Case):

@@ -154,7 +154,7 @@ class Read(PipeCase):
         """All that it names are known as long as it is read."""
         at_random(self.feed, random.Random(6))
         self.check_same(*self.both())
-        with mock.patch("pgsub_feed.reader.lines.MOST_DEFINITIONS", 2):
+        with mock.patch("pgsub_feed.reader.decoding.MOST_DEFINITIONS", 2):
             found = list(pgsub_feed.read(self.path, 0))
             self.assertEqual(list(found[1].changes), list(found[1].changes))
 

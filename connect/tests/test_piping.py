@@ -313,7 +313,7 @@ class Faults(PipeCase):
         for end in range(1, 6):
             rows = [insert(str(end), "a", of=it) for it in tables[: 10 * (end % 3 + 1)]]
             self.feed.commit(0x100 * end, rows)
-        with mock.patch("pgsub_feed.reader.lines.MOST_DEFINITIONS", 12):
+        with mock.patch("pgsub_feed.reader.decoding.MOST_DEFINITIONS", 12):
             alone = Reader(str(self.path), 0)
             wanted = [len(list(alone.parts(it))) for it in iter(alone.next, None)]
             alone.close()
@@ -325,7 +325,7 @@ class Faults(PipeCase):
             code = f"{limit}{start}"
             run = f"/bin/sh -c 'exec {sys.executable} -c \"{code}\" --pipe --feed {self.path}'"
             with mock.patch.dict(os.environ, {**self.environment, "PGSUB_SSH": run}), mock.patch(
-                "pgsub_feed.reader.lines.MOST_DEFINITIONS", most
+                "pgsub_feed.reader.decoding.MOST_DEFINITIONS", most
             ):
                 found = [len(it.changes) for it in pgsub_feed.read(self.url, 0)]
             self.assertEqual([2 * it for it in found], wanted)

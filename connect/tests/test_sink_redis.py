@@ -216,7 +216,7 @@ class Changes(RedisCase):
                 raise Stopped
 
         # (a line or so is read at once)
-        chunk = mock.patch("pgsub_feed.reader.segments.CHUNK", 64)
+        chunk = mock.patch("pgsub_feed.reader.segment.CHUNK", 64)
         with logged(), chunk, mock.patch.object(Poll, "bear", replaced):
             sink_module.run(Options(feed=str(self.path), url="redis://h"), check)
         self.assertEqual(borne, [0x200])

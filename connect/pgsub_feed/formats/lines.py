@@ -19,7 +19,7 @@ from ..errors import Unfit
 from ..json_texts import compact
 from ..reader.commits import Cell, Change, Commit, Event, Message, Unsent
 from ..reader.following import Chosen
-from ..reader.lines import MOST_DEFINITIONS
+from ..reader.decoding import MOST_DEFINITIONS
 from ..reader.segments import Reader
 from ..relation import Relation
 from ..tables.floats import printed_float

@@ -19,8 +19,8 @@ from ..json_texts import lsn_of, whole_of
 from ..reader.base import sections_of
 from ..reader.blocks import LONG, Blocks, Lasting
 from ..reader.commits import Closing, Commit, Head, Part
+from ..reader.decoding import Decoder
 from ..reader.lines import (
-    Decoder,
     no_head,
     read_commit,
     read_head,

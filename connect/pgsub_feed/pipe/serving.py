@@ -9,7 +9,8 @@ from ..interruption import Check
 from ..json_texts import compact
 from ..reader.commits import HEAD, Commit, Head
 from ..reader.folder import noted_of
-from ..reader.lines import DEFINITION, FORMAT, Decoder
+from ..reader.decoding import Decoder
+from ..reader.lines import DEFINITION, FORMAT
 from ..reader.polling import Poll
 from ..reader.whole import Whole
 from ..relation import Relation

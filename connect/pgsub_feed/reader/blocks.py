@@ -14,8 +14,10 @@ from typing import NamedTuple
 
 from ..errors import COUNTS, Damaged, Passing
 from .commits import Commit, Part
-from .lines import Decoder, whole_lines
-from .segments import CHUNK, Reader
+from .decoding import Decoder
+from .lines import whole_lines
+from .segment import CHUNK
+from .segments import Reader
 
 # From how many bytes on a commit is a long one.
 LONG = 8 << 20

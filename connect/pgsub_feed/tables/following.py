@@ -205,7 +205,7 @@ class Tables:
         if not self.rows.db.in_transaction:
             self.changes = 0
             self.rows.begin()
-            self.applier.begin()
+            self.applier.forget()
         self.applier.apply(commit, read())
         self.changes += commit.changes + 1
         self.end = commit.end

@@ -43,7 +43,7 @@ class Added:
     """What a user has added to the tables of a file, looked at once for each state of its schema.
 
     Whatever alters that, here or in another process, gives it another number. A transaction that is
-    rolled back takes its number back, which another state may get then: so all is forgotten there.
+    undone takes its number back, which another state may get next: so it is looked at there too.
     """
 
     def __init__(self, db: sqlite3.Connection) -> None:
