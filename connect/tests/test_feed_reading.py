@@ -458,12 +458,12 @@ class Known(Case):
         self.feed.commit(0x100, [insert("1", "a")])
         self.feed.commit(0x200, [insert("2", "b"), insert("3", "c"), insert("4", "d")])
 
-    def read(self, line: bytes) -> list[Part]:
-        """What the second commit has with another line."""
+    def read(self, line: bytes, end: bytes = b"") -> list[Part]:
+        """What the second commit has with another line, in the place of its end too."""
         text = self.file().read_bytes()
         second = text.index(b'{"end":"0/200"')
-        self.assertEqual(text.count(self.LINE), 1)
-        last = text[second:].replace(self.LINE, line)
+        self.assertEqual(text.count(self.LINE + end), 1)
+        last = text[second:].replace(self.LINE + end, line)
         size = b'"bytes":%d' % (len(last) - 256)
         front, back = re.sub(rb'"bytes":\d+', size, last[:256]).rstrip(), last[256:]
         self.file().write_bytes(text[:second] + summed(front.ljust(255) + b"\n" + back))
@@ -476,6 +476,10 @@ class Known(Case):
         found = self.read(self.LINE.replace(b'"c"]', b'{"hex":"00ff"}]'))
         rows = [it.after for it in found if isinstance(it, Change)]
         self.assertEqual(rows, [["2", "b"], ["3", b"\0\xff"], ["4", "d"]])
+
+    def test_two_in_a_line(self) -> None:
+        with self.assertRaisesRegex(Damaged, "no line of a commit"):
+            self.read(self.LINE + b",", b"\n")
 
     def test_what_is_wrong(self) -> None:
         for old, new, told in (

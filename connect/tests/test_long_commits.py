@@ -45,7 +45,7 @@ USERS = ("consumer", "formats.bulk", "pipe.following", "reader.blocks")
 def smaller(case: FeedCase, long: int = 20000, chunk: int = 4000) -> None:
     """Has commits of fewer bytes be long ones, which are read by smaller pieces."""
     named = [(f"pgsub_feed.{it}.LONG", long) for it in USERS]
-    named += [(f"pgsub_feed.reader.{it}.CHUNK", chunk) for it in ("blocks", "segments")]
+    named += [(f"pgsub_feed.reader.{it}.CHUNK", chunk) for it in ("blocks", "segment")]
     for name, value in named:
         patched = mock.patch(name, value)
         patched.start()
@@ -167,8 +167,8 @@ class Elsewhere(FeedCase):
         for end in (0x200, 0x300, 0x400):
             self.feed.commit(end, [insert("1", "b"), insert("1", "b", of=many[0])])
         smaller(self)
-        for it in ("reader", "formats"):
-            patched = mock.patch(f"pgsub_feed.{it}.lines.MOST_DEFINITIONS", 4)
+        for it in ("reader.decoding", "formats.lines"):
+            patched = mock.patch(f"pgsub_feed.{it}.MOST_DEFINITIONS", 4)
             patched.start()
             self.addCleanup(patched.stop)
         about = "ssh://h/feed", 0, False, None, never
