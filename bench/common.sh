@@ -7,6 +7,8 @@ case "${1-}" in
 esac
 work="$(mktemp -d)"
 trap 'rm -r "$work"' EXIT
+# (the connector is measured as it is installed: it is compiled once)
+unset PYTHONDONTWRITEBYTECODE
 
 # build NAME CRATE..: the program NAME, whose main file is main.rattle beside the script, over these crates with all that they stand on. A
 # CRATE that isn't the repository's is a library of the toolchain.
