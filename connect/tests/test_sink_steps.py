@@ -394,7 +394,7 @@ class Replaced(StepsCase):
                 self.feed.path.write_bytes(text[:-300])
 
         self.server.before_exec = cut
-        with mock.patch("pgsub_feed.reader.segments.CHUNK", 64):
+        with mock.patch.multiple("pgsub_feed.reader.segment", AHEAD=64, CHUNK=64):
             self.fails(Passing, "the feed was altered while a commit was written")
         self.server.before_exec = lambda: None
         self.feed.path.write_bytes(text)
