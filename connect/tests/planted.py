@@ -1212,6 +1212,13 @@ BUGS = (
         ("test_feed_joining",),
     ),
     Bug(
+        "what a trigger has failed for is half made",
+        "pgsub_feed/tables/applier.py",
+        "kept.target.is_keyed and not (keeps and self.is_free)",
+        "kept.target.is_keyed and not keeps",
+        ("test_feed_joining",),
+    ),
+    Bug(
         "changes are joined by a key that only the catalog tells",
         "pgsub_feed/tables/applier.py",
         "kept.target.is_keyed and not kept.primary",

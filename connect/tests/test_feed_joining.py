@@ -141,6 +141,21 @@ class Steps(TablesCase):
         self.run_it()
         self.assertEqual(self.rows("SELECT name FROM seen ORDER BY rowid"), [("b",), ("c",)])
 
+    def test_a_trigger_of_the_users_that_fails_leaves_nothing(self) -> None:
+        """What it says of the key has the table made anew, and the changes made once."""
+        self.take(insert("1", "a"), insert("2", "a"))
+        self.run_it()
+        with closing(sqlite3.connect(self.into)) as db:
+            db.execute("CREATE TABLE seen (name TEXT)")
+            db.execute(
+                "CREATE TRIGGER mine AFTER UPDATE ON stock BEGIN INSERT INTO seen VALUES (new.name);"
+                " INSERT INTO stock SELECT 1, 'own' WHERE new.name = 'c'; END"
+            )
+        self.take(update(["1", "a"], ["1", "b"]), update(["2", "a"], ["2", "c"]))
+        self.run_it()
+        self.assertEqual(self.rows("SELECT * FROM stock ORDER BY 1"), [(1, "b"), (2, "c")])
+        self.assertEqual(self.rows("SELECT name FROM seen"), [])
+
     def test_tables_that_were_not_chosen_are_told_of_again_and_again(self) -> None:
         self.take(insert("1", "0"))
         self.run_it(table=["stock"])
