@@ -9,8 +9,9 @@ ghost use Rattle.pgrows.specs.Rows.{AreBelow, AreRows, IsGood, IsStored, Keeps, 
 ghost use Rattle.pgrows.specs.Rows.{state, tables_of, with_row_if_there};
 
 use crate::entry::{write_entry, write_place, write_row};
-use crate::find::{INDEX, PLACE, TABLE, find};
+use crate::find::{INDEX, PLACE, TABLE};
 use crate::insert::top_of;
+use crate::search::{Search, find};
 use sqlite_trees::error::StoreError;
 use sqlite_trees::store::Alter;
 use sqlite_value::row::Row;
@@ -79,8 +80,7 @@ pub(crate) fn put_over<S: Alter>(
 /// Removes the row that has the key, and returns whether there was one, and the last rowid.
 pub(crate) fn remove<S: Alter>(
     store: &mut S,
-    key: &mut Row,
-    found: &mut Row,
+    search: &mut Search,
     last: Option<i64>,
     oid: u32,
     ident: &[u8],
@@ -96,11 +96,11 @@ pub(crate) fn remove<S: Alter>(
     ensures quiet { IsQuiet S.Store.view S.Store.faults S.Store.recovers S.Store.is_shielded
         store.old store.new }
 {
-    let top = top_of(store, found, last)?;
-    match find(store, key, found, oid, ident)? {
+    let top = top_of(store, &mut search.entry, last)?;
+    match find(store, search, oid, ident)? {
         None => Ok((false, top)),
         Some(id) => {
-            take_out(store, key, id, oid, ident)?;
+            take_out(store, &mut search.key, id, oid, ident)?;
             Ok((true, top))
         }
     }
@@ -110,9 +110,7 @@ pub(crate) fn remove<S: Alter>(
 /// rowid.
 pub(crate) fn set<S: Alter>(
     store: &mut S,
-    key: &mut Row,
-    found: &mut Row,
-    row: &mut Row,
+    search: &mut Search,
     last: Option<i64>,
     oid: u32,
     ident: &[u8],
@@ -131,11 +129,11 @@ pub(crate) fn set<S: Alter>(
     ensures quiet { IsQuiet S.Store.view S.Store.faults S.Store.recovers S.Store.is_shielded
         store.old store.new }
 {
-    let top = top_of(store, found, last)?;
-    match find(store, key, found, oid, ident)? {
+    let top = top_of(store, &mut search.entry, last)?;
+    match find(store, search, oid, ident)? {
         None => Ok((false, top)),
         Some(id) => {
-            put_over(store, row, id, oid, ident, body, copies)?;
+            put_over(store, &mut search.row, id, oid, ident, body, copies)?;
             Ok((true, top))
         }
     }

@@ -1,6 +1,6 @@
 //! The rows that the trees have, and the key that finds them.
 
-ghost use Rattle.std.specs.Prelude.{◌≡◌, ◌∷◌, ℕ, ℤ, List, [], true, MatchOption, OnOk};
+ghost use Rattle.std.specs.Prelude.{◌≡◌, ◌∷◌, ℕ, ℤ, List, [], pos, true, MatchOption, OnOk};
 ghost use Rattle.sqlite.specs.declared.types.Value.TheVariants.{Int, Blob};
 ghost use Rattle.sqlite.specs.Order.{column};
 ghost use Rattle.sqlite_value.specs.Value.{owned};
@@ -146,6 +146,14 @@ pub(crate) fn id_at(entry: &Row, oid: u32, ident: &[u8]) -> Option<i64>
         ValueRef::Int(id) => Some(id),
         _ => None,
     }
+}
+
+/// Whether a row of `held` has the key.
+pub(crate) fn has_key(row: &Row, oid: u32, ident: &[u8]) -> bool
+    ensures oid { result ≡ true → column row.now 1 ≡ Int (pos oid) }
+    ensures ident { result ≡ true → column row.now 2 ≡ Blob ident.now }
+{
+    is_int(row.get(1), i64::from(oid)) && is_blob(row.get(2), ident)
 }
 
 /// Whether an entry of the index is one of the relation's.

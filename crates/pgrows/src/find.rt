@@ -21,7 +21,7 @@ pub(crate) const PLACE: u32 = 3;
 
 /// The rowid of the row that has the key. `found` is the first entry from the key on then, or empty
 /// where there is none.
-pub(crate) fn find<S: Alter>(
+pub(crate) fn find_entry<S: Alter>(
     store: &mut S,
     key: &mut Row,
     found: &mut Row,

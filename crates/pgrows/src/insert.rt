@@ -12,7 +12,7 @@ ghost use Rattle.pgrows.specs.Rows.{AreBelow, AreRows, HasGap, IsFree, IsGood, I
 ghost use Rattle.pgrows.specs.Rows.{IsStored, Makes, database, index_row, state, tables_of};
 
 use crate::entry::{write_entry, write_row};
-use crate::find::{INDEX, TABLE, find};
+use crate::find::{INDEX, TABLE, find_entry};
 use crate::gap::is_between;
 use sqlite_exec::write;
 use sqlite_rules::edit::id_in;
@@ -168,7 +168,7 @@ fn is_missing<S: Alter>(
     if is_between(low, high, oid, ident) {
         return Ok(true);
     }
-    let found = find(store, low, high, oid, ident)?;
+    let found = find_entry(store, low, high, oid, ident)?;
     Ok(found.is_none())
 }
 

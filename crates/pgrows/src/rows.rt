@@ -22,6 +22,7 @@ use crate::dump::give_all;
 use crate::fault::ReadFault;
 use crate::insert::add;
 use crate::relation::clear;
+use crate::search::Search;
 use crate::sink::RowSink;
 use crate::stored::{find_defined, find_stored};
 use crate::walk::{has_rows, next_row};
@@ -41,9 +42,7 @@ use std::marker::Model;
 pub struct Rows<S: Alter> {
     store: S,
     alloc: Global,
-    key: Row,
-    found: Row,
-    row: Row,
+    search: Search,
     // The entry of the row that came last, or nothing, and the first one after it: what comes
     // between them needs no search.
     low: Row,
@@ -86,9 +85,7 @@ impl<S: Alter + Drop> Rows<S> {
         Rows {
             store: conn.into_store(),
             alloc,
-            key: Row::new(alloc),
-            found: Row::new(alloc),
-            row: Row::new(alloc),
+            search: Search::new(alloc),
             low: Row::new(alloc),
             high: Row::new(alloc),
             last: None,
@@ -106,9 +103,7 @@ impl<S: Alter + Drop> Rows<S> {
         Rows {
             store,
             alloc,
-            key: Row::new(alloc),
-            found: Row::new(alloc),
-            row: Row::new(alloc),
+            search: Search::new(alloc),
             low: Row::new(alloc),
             high: Row::new(alloc),
             last: None,
@@ -168,7 +163,7 @@ impl<S: Alter> Rows<S> {
             &mut self.store,
             &mut self.low,
             &mut self.high,
-            &mut self.row,
+            &mut self.search.row,
             self.last,
             oid,
             ident,
@@ -209,9 +204,7 @@ impl<S: Alter> Rows<S> {
         }
         match set(
             &mut self.store,
-            &mut self.key,
-            &mut self.found,
-            &mut self.row,
+            &mut self.search,
             self.last,
             oid,
             ident,
@@ -250,9 +243,7 @@ impl<S: Alter> Rows<S> {
         self.low.clear(); // The row may come between them.
         match put(
             &mut self.store,
-            &mut self.key,
-            &mut self.found,
-            &mut self.row,
+            &mut self.search,
             self.last,
             oid,
             ident,
@@ -289,9 +280,7 @@ impl<S: Alter> Rows<S> {
         match find_stored(
             &mut self.store,
             self.alloc,
-            &mut self.key,
-            &mut self.found,
-            &mut self.row,
+            &mut self.search,
             self.last,
             oid,
             ident,
@@ -317,14 +306,7 @@ impl<S: Alter> Rows<S> {
         if self.failed {
             return Err(StoreError::Broken);
         }
-        match remove(
-            &mut self.store,
-            &mut self.key,
-            &mut self.found,
-            self.last,
-            oid,
-            ident,
-        ) {
+        match remove(&mut self.store, &mut self.search, self.last, oid, ident) {
             Ok((was_there, last)) => {
                 self.last = Some(last);
                 Ok(was_there)
@@ -349,8 +331,8 @@ impl<S: Alter> Rows<S> {
         }
         match clear(
             &mut self.store,
-            &mut self.key,
-            &mut self.found,
+            &mut self.search.key,
+            &mut self.search.entry,
             self.last,
             oid,
         ) {
@@ -381,7 +363,13 @@ impl<S: Alter> Rows<S> {
         if self.failed {
             return Err(ReadFault::Store(StoreError::Broken));
         }
-        match find_defined(&mut self.store, self.alloc, &mut self.row, self.last, oid) {
+        match find_defined(
+            &mut self.store,
+            self.alloc,
+            &mut self.search.row,
+            self.last,
+            oid,
+        ) {
             Ok(definition) => Ok(definition),
             Err(fault) => {
                 self.failed = true;
@@ -416,9 +404,9 @@ impl<S: Alter> Rows<S> {
         match next_row(
             &mut self.store,
             alloc,
-            &mut self.key,
-            &mut self.found,
-            &mut self.row,
+            &mut self.search.key,
+            &mut self.search.entry,
+            &mut self.search.row,
             self.last,
             oid,
             from,
@@ -447,8 +435,8 @@ impl<S: Alter> Rows<S> {
         }
         match has_rows(
             &mut self.store,
-            &mut self.key,
-            &mut self.found,
+            &mut self.search.key,
+            &mut self.search.entry,
             self.last,
             oid,
         ) {
@@ -486,7 +474,7 @@ impl<S: Alter> Rows<S> {
         }
         match put_defined(
             &mut self.store,
-            &mut self.row,
+            &mut self.search.row,
             self.last,
             oid,
             namespace,
@@ -513,7 +501,7 @@ impl<S: Alter> Rows<S> {
         if self.failed {
             return Err(StoreError::Broken);
         }
-        match put_place(&mut self.store, &mut self.row, self.last, position) {
+        match put_place(&mut self.store, &mut self.search.row, self.last, position) {
             Ok(()) => Ok(()),
             Err(error) => {
                 self.failed = true;
@@ -646,8 +634,8 @@ impl<S: Alter> Rows<S> {
         let mut shown = Row::new(alloc);
         match give_all(
             &mut self.store,
-            &mut self.found,
-            &mut self.row,
+            &mut self.search.entry,
+            &mut self.search.row,
             &mut definition,
             &mut shown,
             sink,

@@ -13,6 +13,7 @@ ghost use Rattle.pgrows.specs.Stored.{HasCopies, HasDefinition};
 
 use crate::define::look_up;
 use crate::fault::{ReadFault, well_formed};
+use crate::search::Search;
 use crate::whole::read;
 use pgtables::{StoredDefinition, StoredRow};
 use sqlite::types::{FromSql, FromSqlError};
@@ -48,9 +49,7 @@ fn read_definition(alloc: Global, row: &Row) -> Result<StoredDefinition, FromSql
 pub(crate) fn find_stored<S: Alter>(
     store: &mut S,
     alloc: Global,
-    key: &mut Row,
-    found: &mut Row,
-    row: &mut Row,
+    search: &mut Search,
     last: Option<i64>,
     oid: u32,
     ident: &[u8],
@@ -69,10 +68,10 @@ pub(crate) fn find_stored<S: Alter>(
     ensures quiet { IsQuiet S.Store.view S.Store.faults S.Store.recovers S.Store.is_shielded
         store.old store.new }
 {
-    if !read(store, key, found, row, last, oid, ident)? {
+    if !read(store, search, last, oid, ident)? {
         return Ok(None);
     }
-    let stored = well_formed(read_copies(alloc, row))?;
+    let stored = well_formed(read_copies(alloc, &search.row))?;
     Ok(Some(stored))
 }
 

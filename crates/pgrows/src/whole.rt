@@ -9,8 +9,9 @@ ghost use Rattle.pgtables.specs.Kept.{Copies, held_row, with_row};
 ghost use Rattle.pgrows.specs.Rows.{AreRows, Keeps, Makes, state, tables_of};
 
 use crate::change::put_over;
-use crate::find::{TABLE, find};
+use crate::find::TABLE;
 use crate::insert::{append, top_of};
+use crate::search::{Search, find};
 use sqlite_trees::error::StoreError;
 use sqlite_trees::store::Alter;
 use sqlite_value::row::Row;
@@ -19,9 +20,7 @@ use sqlite_value::row::Row;
 /// rowid.
 pub(crate) fn put<S: Alter>(
     store: &mut S,
-    key: &mut Row,
-    found: &mut Row,
-    row: &mut Row,
+    search: &mut Search,
     last: Option<i64>,
     oid: u32,
     ident: &[u8],
@@ -38,25 +37,32 @@ pub(crate) fn put<S: Alter>(
     ensures quiet { IsQuiet S.Store.view S.Store.faults S.Store.recovers S.Store.is_shielded
         store.old store.new }
 {
-    let top = top_of(store, found, last)?;
-    match find(store, key, found, oid, ident)? {
+    let top = top_of(store, &mut search.entry, last)?;
+    match find(store, search, oid, ident)? {
         Some(id) => {
-            put_over(store, row, id, oid, ident, body, copies)?;
+            put_over(store, &mut search.row, id, oid, ident, body, copies)?;
             Ok(top)
         }
         None => {
-            let id = append(store, key, row, top, oid, ident, body, copies)?;
+            let id = append(
+                store,
+                &mut search.key,
+                &mut search.row,
+                top,
+                oid,
+                ident,
+                body,
+                copies,
+            )?;
             Ok(id)
         }
     }
 }
 
-/// Writes the row that has the key over `row`, or returns false where none has it.
+/// Writes the row that has the key over the search's, or returns false where none has it.
 pub(crate) fn read<S: Alter>(
     store: &mut S,
-    key: &mut Row,
-    found: &mut Row,
-    row: &mut Row,
+    search: &mut Search,
     _last: Option<i64>,
     oid: u32,
     ident: &[u8],
@@ -64,7 +70,7 @@ pub(crate) fn read<S: Alter>(
     requires { AreRows S.Store store.old _last }
     ensures found { IsClean (S.Store.view store.new) → IfOk result (λ found. MatchBool found
         ((k : Copies) × (get (tables_of S.Store store.old).rows (oid ∷ ident.now) ≡ Some k)
-        × (id : ℤ) × (row.new ≡ held_row (Int id) oid ident.now k))
+        × (id : ℤ) × (search.new.row ≡ held_row (Int id) oid ident.now k))
         (get (tables_of S.Store store.old).rows (oid ∷ ident.now) ≡ None)) }
     ensures made { IsClean (S.Store.view store.new) → OnOk result
         (Makes S.Store (λ t. t) store.old store.new) }
@@ -77,8 +83,8 @@ pub(crate) fn read<S: Alter>(
     if store.is_broken() {
         return Err(StoreError::Broken);
     }
-    match find(store, key, found, oid, ident)? {
-        Some(id) => store.get(TABLE, id, row),
+    match find(store, search, oid, ident)? {
+        Some(id) => store.get(TABLE, id, &mut search.row),
         None => Ok(false),
     }
 }

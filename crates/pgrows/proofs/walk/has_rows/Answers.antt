@@ -1,6 +1,5 @@
-use Rattle.std.proofs.Common.{true, false, sym, ◌∙◌, arith}
+use Rattle.std.proofs.Common.{sym, ◌∙◌, arith}
 use Rattle.sqlite_trees.specs.View.{IsClean}
-use Rattle.pgrows.specs.Rows.{tables_of}
 use Rattle.pgrows.proofs.Found.{open_of, reads_under}
 use Rattle.pgrows.proofs.Walked.{any_row}
 use Rattle.pgrows.proofs.walk.has_rows.Goals as goal
