@@ -1,5 +1,5 @@
 -- A commit of a segment that comes in parts: what its lines are before it has a line of its own.
-use Rattle.std.specs.Prelude.{◌≡◌, ◌<◌, ◌+◌, ◌++◌, ℕ, List, Option, Some, length}
+use Rattle.std.specs.Prelude.{◌≡◌, ◌<◌, ◌+◌, ◌++◌, ℕ, List, Option, Some, None, IsSome, length}
 use Rattle.sqlite_disk.specs.Disk.{Holds}
 use Rattle.pgapply.specs.declared.commit.About.{About}
 use Rattle.pgcrc.specs.Covering.{Covers}
@@ -41,3 +41,8 @@ pub record HasDraft {D : Type 0} (seen : D → List ℕ) (s : Segment D) (messag
   pub there : s.draft ≡ Some draft
   pub is_draft : IsDraft s.told.items s.size messages ls body draft
   pub holds : 0 < length body → Holds (seen s.disk) (s.size + 256) body
+
+-- There is no draft, and what the file had of one behind the commits is truncated.
+pub record DropsDraft {D : Type 0} (seen : D → List ℕ) (old new : Segment D) : Type 0 where
+  pub none : new.draft ≡ None
+  pub cut : IsSome old.draft → length (seen new.disk) ≡ old.size

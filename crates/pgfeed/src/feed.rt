@@ -8,7 +8,7 @@ ghost use Rattle.pgledger.specs.Entries.{entry_of};
 ghost use Rattle.pgledger.specs.Drafts.{AddsLines, BeginsDraft, KeepsDraft};
 ghost use Rattle.pgledger.specs.Images.{Line, lines};
 ghost use Rattle.pgledger.specs.Ledgers.{Appends, AppendsAtMost, Hears, Keeps, Rests, Syncs};
-ghost use Rattle.pgfeed.specs.Drafts.{HasDraft};
+ghost use Rattle.pgfeed.specs.Drafts.{DropsDraft, HasDraft};
 ghost use Rattle.pgfeed.specs.Feeds.{Ends, Goes, IsFull, IsHonestFeed, IsLate, IsOver, KeepsAll};
 ghost use Rattle.pgfeed.specs.Beside.{KeepsRest, LastsFrom, is_stuck_feed};
 ghost use Rattle.pgfeed.specs.Feeds.{MayEnd, MayGoOver, ReopensAt, TakesAllBack};
@@ -31,6 +31,9 @@ use std::alloc::Global;
 /// How many segments that have ended stay open at most: each is an open file, of which a process
 /// may have 1,024 where nothing else is set.
 pub const MOST_ENDED: usize = 256;
+
+/// The size in bytes of a commit of which it isn't known: more than any segment has room for.
+pub const ANY_SIZE: usize = 18_446_744_073_709_551_615;
 
 /// A feed: a ledger over a folder of segments that follow each other. The last one is open; the
 /// others have ended, each with a line that tells the LSN at which it ends and the next one begins.
@@ -505,6 +508,10 @@ impl<F: Folder + Drop> Ledger for Feed<F> {
             HasDraft F.File.seen l.segment (heard_by l)) self.new) }
         ensures ends { MayEnd F.File.seen F.File.may_leave F.File.is_clean self.old.synced
             self.old.ended.items self.new.ended.items self.old.segment self.new.segment }
+        ensures next { OnOk result (IsOver self.old.limits.bytes self.old.limits.micros
+            self.old.first self.old.segment about ANY_SIZE →
+            (self.new.segment.base ≡ self.old.segment.last)
+            ⊎ MayGoOver MOST_ENDED self.old.synced self.old.ended.items self.old.segment) }
         ensures kept { Keeps (KeepsRest F.File.seen F.File.may_leave F.File.is_clean F.is_true
             F.places F.has) self.old self.new }
         ensures heard { all_heard self.new.hearing ≡ all_heard self.old.hearing }
@@ -606,6 +613,8 @@ impl<F: Folder + Drop> Ledger for Feed<F> {
 
     /// Truncates the lines of a commit whose parts haven't ended.
     fn drop_parts(&mut self)
+        ensures dropped { self.new.segment.is_stuck ≡ false →
+            DropsDraft F.File.seen self.old.segment self.new.segment }
         ensures kept { Keeps (KeepsRest F.File.seen F.File.may_leave F.File.is_clean F.is_true
             F.places F.has) self.old self.new }
         ensures heard { all_heard self.new.hearing ≡ all_heard self.old.hearing }

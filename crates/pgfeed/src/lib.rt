@@ -37,11 +37,10 @@
 
 mod changes;
 mod draft;
-mod drafting;
 mod entries;
 mod fault;
 mod feed;
-mod feed_parts;
+mod feed_draft;
 mod folder;
 mod heads;
 mod hearing;
@@ -50,13 +49,14 @@ mod mark;
 mod messages;
 mod opening;
 mod segment;
+mod segment_draft;
 mod segments;
 mod tables;
 mod told;
 mod values;
 
 pub use fault::FeedFault;
-pub use feed::{Feed, MOST_ENDED};
+pub use feed::{ANY_SIZE, Feed, MOST_ENDED};
 pub use folder::{Folder, Origin, SegmentLimits};
 pub use laws::{
     changes_name_definitions, entries_have_their_crc, feeds_lead_to_their_store,

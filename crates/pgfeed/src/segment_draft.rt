@@ -7,7 +7,7 @@ ghost use Rattle.pgapply.specs.Stored.{IsOwnFault};
 ghost use Rattle.pgapply.specs.declared.fault.StoreFault.TheVariants.{Refused};
 ghost use Rattle.pgledger.specs.declared.heard.Heard.{Heard as Message};
 ghost use Rattle.pgledger.specs.Images.{Line, lines};
-ghost use Rattle.pgfeed.specs.Drafts.{HasDraft, drafted};
+ghost use Rattle.pgfeed.specs.Drafts.{DropsDraft, HasDraft, drafted};
 ghost use Rattle.pgfeed.specs.Next.{Adds, Remembers};
 ghost use Rattle.pgfeed.specs.Segments.{ChangesBehind};
 
@@ -44,6 +44,7 @@ impl<D: Disk + Drop> Segment<D> {
 
     /// Truncates the file behind the commits.
     fn cut_behind(&mut self) -> Result<(), StoreFault>
+        ensures cut { OnOk result (length (D.seen self.new.disk) ≡ self.old.size) }
         ensures behind { ChangesBehind self.old.size (D.seen self.old.disk)
             (D.seen self.new.disk) (D.may_leave self.old.disk) (D.may_leave self.new.disk) }
         ensures same { self.new ≡ record self.old { disk = self.new.disk } }
@@ -65,6 +66,7 @@ impl<D: Disk + Drop> Segment<D> {
     ///
     /// `Refused` where the call of the file fails.
     pub(crate) fn drop_draft(&mut self) -> Result<(), StoreFault>
+        ensures dropped { OnOk result (DropsDraft D.seen self.old self.new) }
         ensures behind { ChangesBehind self.old.size (D.seen self.old.disk)
             (D.seen self.new.disk) (D.may_leave self.old.disk) (D.may_leave self.new.disk) }
         ensures base { self.new.base ≡ self.old.base }

@@ -1,16 +1,16 @@
 //! A feed that takes a commit in parts: the open segment has it as a draft.
 
-ghost use Rattle.std.specs.Prelude.{◌≡◌, ◌++◌, List, [], false, true, Some, IsSome, OnOk, OnErr};
-ghost use Rattle.std.specs.Prelude.{IfErr};
+ghost use Rattle.std.specs.Prelude.{◌≡◌, ◌⊎◌, ◌++◌, List, [], false, true, Some, IsSome, OnOk};
+ghost use Rattle.std.specs.Prelude.{OnErr, IfErr};
 ghost use Rattle.pgapply.specs.Stored.{IsOwnFault};
 ghost use Rattle.pgledger.specs.Images.{Line, lines};
 ghost use Rattle.pgledger.specs.Ledgers.{Appends, Keeps};
-ghost use Rattle.pgfeed.specs.Drafts.{HasDraft, drafted};
-ghost use Rattle.pgfeed.specs.Feeds.{Goes, HearsWithin, IsTimed, KeepsAll, MayEnd};
-ghost use Rattle.pgfeed.specs.Feeds.{StaysTimed, heard_by};
+ghost use Rattle.pgfeed.specs.Drafts.{DropsDraft, HasDraft, drafted};
+ghost use Rattle.pgfeed.specs.Feeds.{Goes, HearsWithin, IsOver, IsTimed, KeepsAll, MayEnd};
+ghost use Rattle.pgfeed.specs.Feeds.{MayGoOver, StaysTimed, heard_by};
 ghost use Rattle.pgfeed.specs.Hearing.{all_heard};
 
-use crate::feed::{Feed, first_time};
+use crate::feed::{ANY_SIZE, Feed, MOST_ENDED, first_time};
 use crate::folder::Folder;
 use pgapply::{About, StoreFault, Work};
 use pgledger::Image;
@@ -46,6 +46,10 @@ impl<F: Folder + Drop> Feed<F> {
         ensures begun { OnOk result (HasDraft F.File.seen self.new.segment (heard_by self.new) []) }
         ensures ends { MayEnd F.File.seen F.File.may_leave F.File.is_clean self.old.synced
             self.old.ended.items self.new.ended.items self.old.segment self.new.segment }
+        ensures next { OnOk result (IsOver self.old.limits.bytes self.old.limits.micros
+            self.old.first self.old.segment about ANY_SIZE →
+            (self.new.segment.base ≡ self.old.segment.last)
+            ⊎ MayGoOver MOST_ENDED self.old.synced self.old.ended.items self.old.segment) }
         ensures free { OnOk result (self.new.segment.is_stuck ≡ false) }
         ensures first { OnOk result (StaysTimed self.old.first self.new.first self.old.segment
             self.new.segment) }
@@ -56,8 +60,7 @@ impl<F: Folder + Drop> Feed<F> {
         ensures fault { IfErr result IsOwnFault }
     {
         self.hearing.test()?;
-        // how long it will be isn't known
-        self.make_room(about, usize::MAX)?;
+        self.make_room(about, ANY_SIZE)?;
         self.segment.begin_draft(self.hearing.messages())
     }
 
@@ -126,6 +129,8 @@ impl<F: Folder + Drop> Feed<F> {
     /// Drops the draft.
     pub(crate) fn drop_draft(&mut self) -> Result<(), StoreFault>
         requires { self.old.segment.is_stuck ≡ false }
+        ensures dropped { OnOk result
+            (DropsDraft F.File.seen self.old.segment self.new.segment) }
         ensures goes { Goes F.File.seen F.File.may_leave F.File.is_clean F.is_true
             F.places F.has self.old self.new }
         ensures kept { Keeps (KeepsAll F.File.seen F.File.may_leave F.File.is_clean F.is_true
