@@ -13,6 +13,7 @@ of_pushing (Err spool.Memory) is = tt
 of_pushing (Err spool.NotWritten) is = tt
 of_pushing (Err spool.NoRoom) is = tt
 of_pushing (Err spool.NotRead) is = is
+of_pushing (Err spool.TooManyOpen) is = tt
 
 pub of_reading : {A : Type 0} (r : Result A SpoolFault) → IfErr r IsOfReading → IfErr r (IsFailure (Unit {0}))
 of_reading (Ok a) is = tt
@@ -21,6 +22,7 @@ of_reading (Err spool.Memory) is = tt
 of_reading (Err spool.NotWritten) is = tt
 of_reading (Err spool.NoRoom) is = tt
 of_reading (Err spool.NotRead) is = tt
+of_reading (Err spool.TooManyOpen) is = is
 
 pub of_opening : {A : Type 0} (r : Result A SpoolFault) → IfErr r (λ fault. fault ≡ spool.Memory) → IfErr r (IsOfKeeping (Unit {0}))
 of_opening (Ok a) is = tt

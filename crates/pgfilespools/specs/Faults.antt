@@ -11,6 +11,7 @@ IsOfWriting spool.Memory = Unit {0}
 IsOfWriting spool.NotWritten = Unit {0}
 IsOfWriting spool.NoRoom = Unit {0}
 IsOfWriting spool.NotRead = ⊥
+IsOfWriting spool.TooManyOpen = ⊥
 
 -- where they are read back
 abbrev pub IsOfReading : SpoolFault → Type 0
@@ -19,6 +20,7 @@ IsOfReading spool.Memory = Unit {0}
 IsOfReading spool.NotWritten = ⊥
 IsOfReading spool.NoRoom = ⊥
 IsOfReading spool.NotRead = Unit {0}
+IsOfReading spool.TooManyOpen = ⊥
 
 -- what a fault of the bytes is to the items
 abbrev pub told : SpillFault → SpoolFault
@@ -34,3 +36,4 @@ IsOfPushing spool.Memory = Unit {0}
 IsOfPushing spool.NotWritten = Unit {0}
 IsOfPushing spool.NoRoom = Unit {0}
 IsOfPushing spool.NotRead = ⊥
+IsOfPushing spool.TooManyOpen = ⊥

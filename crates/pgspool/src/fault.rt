@@ -23,6 +23,9 @@ pub enum SpoolFault {
     /// What went to a file can't be read, or other bytes are read than were written.
     #[error("spool 5 NotRead")]
     NotRead,
+    /// As many transactions are open as may be.
+    #[error("spool 6 TooManyOpen")]
+    TooManyOpen,
 }
 
 impl From<AllocError> for SpoolFault {
