@@ -1,7 +1,7 @@
 -- Commits follow as before where one table's definition was replaced, and is replaced again before
 -- the table is named.
 use Rattle.std.proofs.Common.{◌≡◌, inl, inr, ℕ, List, [], ◌∷◌, ◌++◌, Option, Some, None, sym, subst}
-use Rattle.std.proofs.Common.{◌∙◌}
+use Rattle.std.proofs.Common.{ℤ, ◌∙◌}
 use Rattle.std.specs.List.{AllByRecursion}
 use Rattle.pglogical.specs.declared.message.RelationDef.{RelationDef}
 use Rattle.pglogical.specs.declared.message.Item.{Item}
@@ -23,13 +23,13 @@ use Rattle.pgadding.proofs.Redefined.{defined_first}
 abbrev pub LateNamed : ℕ → List CommitOrKeepalive → Type 0
 LateNamed oid [] = Unit {0}
 LateNamed oid (KeepaliveEnd end quiet ∷ ms) = LateNamed oid ms
-LateNamed oid (Committed (WholeCommit xid lsn end items) ∷ ms) = DefinedBeforeNamed oid (LateNamed oid ms) items
-LateNamed oid (Committed (StreamedCommit xid lsn end streamed) ∷ ms) = ⊥
+LateNamed oid (Committed (WholeCommit xid lsn end time items) ∷ ms) = DefinedBeforeNamed oid (LateNamed oid ms) items
+LateNamed oid (Committed (StreamedCommit xid lsn end time streamed) ∷ ms) = ⊥
 
 abbrev pub IsWholeCommit : CommitOrKeepalive → Type 0
 IsWholeCommit (KeepaliveEnd end quiet) = Unit {0}
-IsWholeCommit (Committed (WholeCommit xid lsn end items)) = Unit {0}
-IsWholeCommit (Committed (StreamedCommit xid lsn end streamed)) = ⊥
+IsWholeCommit (Committed (WholeCommit xid lsn end time items)) = Unit {0}
+IsWholeCommit (Committed (StreamedCommit xid lsn end time streamed)) = ⊥
 
 pub alike_follow : (ms : List CommitOrKeepalive) (earlier other : List RelationDef) (remaining : List Transaction) → Alike earlier other
     → CommitsFollow earlier remaining ms → CommitsFollow other remaining ms
@@ -53,9 +53,9 @@ pub late_follow : (oid : ℕ) (ms : List CommitOrKeepalive) (earlier other : Lis
 late_follow oid [] earlier other remaining alike late h = tt
 late_follow oid (KeepaliveEnd end quiet ∷ ms) earlier other remaining alike late h =
     (h.0, late_follow oid ms earlier other remaining alike late h.1)
-late_follow oid (Committed (StreamedCommit xid lsn end streamed) ∷ ms) earlier other remaining alike late h = absurd late
-late_follow oid (Committed (WholeCommit xid lsn end items) ∷ ms) earlier other remaining alike late h =
-    let its : DefinedBeforeNamed oid (LateNamed oid ms) h.3 = subst (DefinedBeforeNamed oid (LateNamed oid ms)) (sym h.6.3) late in
+late_follow oid (Committed (StreamedCommit xid lsn end time streamed) ∷ ms) earlier other remaining alike late h = absurd late
+late_follow oid (Committed (WholeCommit xid lsn end time items) ∷ ms) earlier other remaining alike late h =
+    let its : DefinedBeforeNamed oid (LateNamed oid ms) h.3 = subst (DefinedBeforeNamed oid (LateNamed oid ms)) (sym h.6.4) late in
     let it = same oid (LateNamed oid ms) h.3 earlier other alike its in (
       h.0,
       h.1,
@@ -77,17 +77,17 @@ pub never_defined : (oid : ℕ) (ms : List CommitOrKeepalive) (earlier : List Re
     → CommitsFollow earlier remaining ms → LateNamed oid ms
 never_defined oid [] earlier remaining none whole h = tt
 never_defined oid (KeepaliveEnd end quiet ∷ ms) earlier remaining none whole h = never_defined oid ms earlier remaining none whole.1 h.1
-never_defined oid (Committed (StreamedCommit xid lsn end streamed) ∷ ms) earlier remaining none whole h = absurd whole.0
-never_defined oid (Committed (WholeCommit xid lsn end items) ∷ ms) earlier remaining none whole h =
-    subst (DefinedBeforeNamed oid (LateNamed oid ms)) h.6.3
+never_defined oid (Committed (StreamedCommit xid lsn end time streamed) ∷ ms) earlier remaining none whole h = absurd whole.0
+never_defined oid (Committed (WholeCommit xid lsn end time items) ∷ ms) earlier remaining none whole h =
+    subst (DefinedBeforeNamed oid (LateNamed oid ms)) h.6.4
     (defined_first oid (LateNamed oid ms) h.3 earlier (surviving_changes h.1.work) none h.7
     (λ still. never_defined oid ms (relations_after earlier h.3) h.2 still whole.1 h.8))
 
 -- whole messages have whole commits
-pair_whole : (pair : Option ℕ) (lsn end : ℕ) (items : List Item) (ms : List CommitOrKeepalive) → AllByRecursion IsWholeCommit ms
-    → AllByRecursion IsWholeCommit (pair_commit pair lsn end items ++ ms)
-pair_whole None lsn end items ms h = h
-pair_whole (Some xid) lsn end items ms h = (tt, h)
+pair_whole : (pair : Option ℕ) (lsn end : ℕ) (time : ℤ) (items : List Item) (ms : List CommitOrKeepalive) → AllByRecursion IsWholeCommit ms
+    → AllByRecursion IsWholeCommit (pair_commit pair lsn end time items ++ ms)
+pair_whole None lsn end time items ms h = h
+pair_whole (Some xid) lsn end time items ms h = (tt, h)
 
 pub whole_commits : (before : List Message) (sent : List Sent) → AreWhole (messages_in sent)
     → AllByRecursion IsWholeCommit (commits_and_keepalives before sent)
@@ -96,7 +96,7 @@ whole_commits before (Keepalive end clock reply ∷ sent) h = (tt, whole_commits
 whole_commits before (Data start end clock (message.Begin lsn time xid) ∷ sent) h =
     whole_commits (message.Begin lsn time xid ∷ before) sent h.1
 whole_commits before (Data start end clock (message.Commit lsn done time) ∷ sent) h =
-    pair_whole (pair_of before) lsn done (pair_items before) _ (whole_commits (message.Commit lsn done time ∷ before) sent h.1)
+    pair_whole (pair_of before) lsn done time (pair_items before) _ (whole_commits (message.Commit lsn done time ∷ before) sent h.1)
 whole_commits before (Data start end clock (message.Origin lsn name) ∷ sent) h = whole_commits (message.Origin lsn name ∷ before) sent h.1
 whole_commits before (Data start end clock (message.TypeName xid oid namespace name) ∷ sent) h =
     whole_commits (message.TypeName xid oid namespace name ∷ before) sent h.1

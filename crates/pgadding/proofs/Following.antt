@@ -83,8 +83,8 @@ seen_among point (b ∷ below) above (x ∷ left_out) t later unseen lt e =
     record { more = it.more; all = ap (λ first. first ∷ below) is ∙ ap (λ rest. x ∷ rest) it.all; rest = it.rest }
 
 pub commit_lsn : (t : Transaction) (c : Completed) (surviving : List Item) → IsCommitOf t c surviving → lsn_of c ≡ t.lsn
-commit_lsn t (WholeCommit xid lsn end items) surviving h = h.1
-commit_lsn t (StreamedCommit xid lsn end streamed) surviving h = h.1
+commit_lsn t (WholeCommit xid lsn end time items) surviving h = h.1
+commit_lsn t (StreamedCommit xid lsn end time streamed) surviving h = h.1
 
 at_least : (from a b : ℕ) → from ≤ a → a ≡ b → from ≤ b
 at_least from a b le e = omega arith

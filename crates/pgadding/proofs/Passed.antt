@@ -1,7 +1,7 @@
 -- The commits of what is passed on follow in the history with the rows.
 use Rattle.std.proofs.Common.{◌≡◌, ◌<◌, ◌≤◌, ◌++◌, ℕ, List, [], ◌∷◌, true, false, cond, nat_le}
 use Rattle.std.proofs.Common.{Option, Some, None, Ok, refl, sym, ap, subst, ◌∙◌, arith}
-use Rattle.std.proofs.Common.{append_assoc}
+use Rattle.std.proofs.Common.{ℤ, append_assoc}
 use Rattle.std.proofs.lemmas.Bool.Decides.{leb_tells}
 use Rattle.std.proofs.lemmas.List.{map-append}
 use Rattle.std.specs.List.{AllByRecursion}
@@ -61,14 +61,15 @@ pub record Ready (a : Addition) (above : List Transaction) (place : Option ℕ) 
 -- ---- a commit before the point
 
 commit_follows : (a : Addition) (above : List Transaction) → AreUnseen a.point above
-    → (xid lsn end : ℕ) (items : List Item) (earlier : List RelationDef) (below : List Transaction) (ms passed : List CommitOrKeepalive)
+    → (xid lsn end : ℕ) (time : ℤ) (items : List Item) (earlier : List RelationDef) (below : List Transaction)
+    (ms passed : List CommitOrKeepalive)
     → AreSeen a.point below → lsn < a.point
-    → CommitsFollow earlier (below ++ above) (Committed (WholeCommit xid lsn end items) ∷ ms)
+    → CommitsFollow earlier (below ++ above) (Committed (WholeCommit xid lsn end time items) ∷ ms)
     → ((more : List Transaction) → AreSeen a.point more → CommitsFollow (relations_after earlier items) (more ++ above) ms
     → CommitsFollow (relations_after earlier items) (history_behind a more above) passed)
     → CommitsFollow earlier (history_behind a below above)
-    (Committed (WholeCommit xid lsn end (items_without a.definition.oid items)) ∷ passed)
-commit_follows a above unseen xid lsn end items earlier below ms passed seen early h then =
+    (Committed (WholeCommit xid lsn end time (items_without a.definition.oid items)) ∷ passed)
+commit_follows a above unseen xid lsn end time items earlier below ms passed seen early h then =
     let oid = a.definition.oid in
     let out = h.0 in
     let t = h.1 in
@@ -79,9 +80,9 @@ commit_follows a above unseen xid lsn end items earlier below ms passed seen ear
     let rest : AreSeen a.point (t ∷ it.more) = all_right (IsSeen a.point) out (t ∷ it.more) each in
     let behind = rows_transaction a ∷ above in
     let its : described earlier items ≡ Ok (surviving_changes t.work) =
-    subst (λ its. described earlier its ≡ Ok (surviving_changes t.work)) h.6.3 h.7 in
+    subst (λ its. described earlier its ≡ Ok (surviving_changes t.work)) h.6.4 h.7 in
     let later : CommitsFollow (relations_after earlier items) (it.more ++ above) ms =
-    subst (λ its. CommitsFollow (relations_after earlier its) (it.more ++ above) ms) h.6.3
+    subst (λ its. CommitsFollow (relations_after earlier its) (it.more ++ above) ms) h.6.4
     (subst (λ ts. CommitsFollow (relations_after earlier h.3) ts ms) it.rest h.8) in (
       all_without oid out,
       transaction_without oid t,
@@ -90,7 +91,7 @@ commit_follows a above unseen xid lsn end items earlier below ms passed seen ear
       ap (λ ts. all_without oid ts ++ behind) it.all ∙ ap (λ ts. ts ++ behind) (map-append (transaction_without oid) out (t ∷ it.more))
           ∙ append_assoc (all_without oid out) (all_without oid (t ∷ it.more)) behind,
       nothing_all a.point oid out (all_left (IsSeen a.point) out (t ∷ it.more) each) h.5,
-      (h.6.0, h.6.1, h.6.2, refl),
+      (h.6.0, h.6.1, h.6.2, h.6.3, refl),
       described-without oid earlier items (surviving_changes t.work) its
           ∙ ap (λ cs. Ok cs) (sym (surviving-without oid t.work rest.0.work)),
       subst (λ known. CommitsFollow known (history_behind a it.more above) passed) (sym (relations-without oid items earlier))
@@ -238,11 +239,12 @@ passed_follow a above unseen (Data start end clock (message.Commit lsn done time
     let same : lsn ≡ l = r.order.0 in
     let here : l < a.point = r.here in
     let early : lsn < a.point = omega arith in
-    let came : CommitsFollow earlier (below ++ above) (Committed (WholeCommit r.at.0 lsn done (pair_items before)) ∷ ms) =
-    subst (λ (p : Option ℕ). CommitsFollow earlier (below ++ above) (pair_commit p lsn done (pair_items before) ++ ms)) r.at.1 r.follow in
+    let came : CommitsFollow earlier (below ++ above) (Committed (WholeCommit r.at.0 lsn done time (pair_items before)) ∷ ms) =
+    subst (λ (p : Option ℕ). CommitsFollow earlier (below ++ above) (pair_commit p lsn done time (pair_items before) ++ ms)) r.at.1
+    r.follow in
     let then : CommitsFollow earlier (history_behind a below above)
-    (Committed (WholeCommit r.at.0 lsn done (items_without a.definition.oid (pair_items before))) ∷ passed) =
-    commit_follows a above unseen r.at.0 lsn done (pair_items before) earlier below ms passed r.seen early came (λ more seen follow.
+    (Committed (WholeCommit r.at.0 lsn done time (items_without a.definition.oid (pair_items before))) ∷ passed) =
+    commit_follows a above unseen r.at.0 lsn done time (pair_items before) earlier below ms passed r.seen early came (λ more seen follow.
     passed_follow a above unseen sent None (closed ∷ before) (closed ∷ other) (relations_after earlier (pair_items before)) more (record {
       order = r.order.1;
       whole = r.whole.1;
@@ -257,9 +259,10 @@ passed_follow a above unseen (Data start end clock (message.Commit lsn done time
       keeps = r.keeps;
       follow = follow;
     })) in
-    subst (λ (p : Option ℕ). CommitsFollow earlier (history_behind a below above) (pair_commit p lsn done (pair_items other) ++ passed))
+    subst (λ (p : Option ℕ). CommitsFollow earlier (history_behind a below above)
+    (pair_commit p lsn done time (pair_items other) ++ passed))
     (sym (r.pair ∙ r.at.1))
-    (subst (λ its. CommitsFollow earlier (history_behind a below above) (Committed (WholeCommit r.at.0 lsn done its) ∷ passed))
+    (subst (λ its. CommitsFollow earlier (history_behind a below above) (Committed (WholeCommit r.at.0 lsn done time its) ∷ passed))
     (sym r.items) then)
 passed_follow a above unseen (Data start end clock (message.Item xid item) ∷ sent) (Some l) before other earlier below r =
     let kept = item_without a.definition.oid item in

@@ -1,6 +1,6 @@
 -- The commits of messages that stand in order, by the place at which they come.
 use Rattle.std.proofs.Common.{◌≡◌, ◌≤◌, ◌++◌, ℕ, List, [], ◌∷◌, Option, Some, None, refl, sym}
-use Rattle.std.proofs.Common.{subst, arith, append_assoc}
+use Rattle.std.proofs.Common.{ℤ, subst, arith, append_assoc}
 use Rattle.std.specs.List.{AllByRecursion}
 use Rattle.pglogical.specs.declared.message.Item.{Item}
 use Rattle.pglogical.specs.declared.message.Message.{Message}
@@ -26,11 +26,11 @@ abbrev pub open_items : Option ℕ → List Message → List Item
 open_items None before = []
 open_items (Some l) before = pair_items before
 
-late_commit : (oid lsn end : ℕ) (pair : Option ℕ) (items more : List Item) (ms : List CommitOrKeepalive) (xid : ℕ) → pair ≡ Some xid
-    → DefinedBeforeNamed oid (Unit {0}) (items ++ more)
-    → (DefinedBeforeNamed oid (Unit {0}) more → LateNamed oid ms) → LateNamed oid (pair_commit pair lsn end items ++ ms)
-late_commit oid lsn end pair items more ms xid e late then =
-    subst (λ (p : Option ℕ). LateNamed oid (pair_commit p lsn end items ++ ms)) (sym e)
+late_commit : (oid lsn end : ℕ) (time : ℤ) (pair : Option ℕ) (items more : List Item) (ms : List CommitOrKeepalive) (xid : ℕ)
+    → pair ≡ Some xid → DefinedBeforeNamed oid (Unit {0}) (items ++ more)
+    → (DefinedBeforeNamed oid (Unit {0}) more → LateNamed oid ms) → LateNamed oid (pair_commit pair lsn end time items ++ ms)
+late_commit oid lsn end time pair items more ms xid e late then =
+    subst (λ (p : Option ℕ). LateNamed oid (pair_commit p lsn end time items ++ ms)) (sym e)
     (defined_split oid (LateNamed oid ms) items more late then)
 
 pub late_named : (oid : ℕ) (place : Option ℕ) (before : List Message) (sent : List Sent) → At place before
@@ -51,7 +51,7 @@ late_named oid None before (Data start end clock message.StreamStop ∷ sent) at
 late_named oid None before (Data start end clock (message.StreamCommit xid lsn done time) ∷ sent) at h late = absurd h.0
 late_named oid None before (Data start end clock (message.StreamAbort xid label) ∷ sent) at h late = absurd h.0
 late_named oid (Some l) before (Data start end clock (message.Commit lsn done time) ∷ sent) at h late =
-    late_commit oid lsn done (pair_of before) (pair_items before) (items_in sent) _ at.0 at.1 late
+    late_commit oid lsn done time (pair_of before) (pair_items before) (items_in sent) _ at.0 at.1 late
     (λ more. late_named oid None (message.Commit lsn done time ∷ before) sent refl h.1 more)
 late_named oid (Some l) before (Data start end clock (message.Item xid item) ∷ sent) at h late =
     late_named oid (Some l) (message.Item xid item ∷ before) sent at h.1
@@ -71,8 +71,8 @@ late_named oid (Some l) before (Data start end clock (message.StreamAbort xid la
 -- ---- the first commit
 
 abbrev pub lsn_of : Completed → ℕ
-lsn_of (WholeCommit xid lsn end items) = lsn
-lsn_of (StreamedCommit xid lsn end streamed) = lsn
+lsn_of (WholeCommit xid lsn end time items) = lsn
+lsn_of (StreamedCommit xid lsn end time streamed) = lsn
 
 -- the first commit, if one comes, is there or behind
 abbrev pub FirstFrom : ℕ → List CommitOrKeepalive → Type 0
@@ -91,9 +91,11 @@ has_first from [] h = tt
 has_first from (KeepaliveEnd end quiet ∷ ms) h = has_first from ms h
 has_first from (Committed completed ∷ ms) h = h
 
-first_pair : (from lsn end : ℕ) (pair : Option ℕ) (items : List Item) (ms : List CommitOrKeepalive) (xid : ℕ) → pair ≡ Some xid → from ≤ lsn
-    → HasFirst from (pair_commit pair lsn end items ++ ms)
-first_pair from lsn end pair items ms xid e le = subst (λ (p : Option ℕ). HasFirst from (pair_commit p lsn end items ++ ms)) (sym e) le
+first_pair : (from lsn end : ℕ) (time : ℤ) (pair : Option ℕ) (items : List Item) (ms : List CommitOrKeepalive) (xid : ℕ)
+    → pair ≡ Some xid → from ≤ lsn
+    → HasFirst from (pair_commit pair lsn end time items ++ ms)
+first_pair from lsn end time pair items ms xid e le =
+    subst (λ (p : Option ℕ). HasFirst from (pair_commit p lsn end time items ++ ms)) (sym e) le
 
 -- a pair that ends in the session has its commit at its LSN
 pub commit_comes : (from l : ℕ) (before : List Message) (sent : List Sent) → from ≤ l → At (Some l) before
@@ -102,7 +104,7 @@ pub commit_comes : (from l : ℕ) (before : List Message) (sent : List Sent) →
 commit_comes from l before [] le at h ends = absurd (cc)
 commit_comes from l before (Keepalive end clock reply ∷ sent) le at h ends = commit_comes from l before sent le at h ends
 commit_comes from l before (Data start end clock (message.Commit lsn done time) ∷ sent) le at h ends =
-    first_pair from lsn done (pair_of before) (pair_items before) _ at.0 at.1 (let same : lsn ≡ l = h.0 in omega arith)
+    first_pair from lsn done time (pair_of before) (pair_items before) _ at.0 at.1 (let same : lsn ≡ l = h.0 in omega arith)
 commit_comes from l before (Data start end clock (message.Item xid item) ∷ sent) le at h ends =
     commit_comes from l (message.Item xid item ∷ before) sent le at h.1 ends
 commit_comes from l before (Data start end clock (message.Origin lsn name) ∷ sent) le at h ends =
@@ -142,9 +144,9 @@ first_from from told None before (Data start end clock message.StreamStop ∷ se
 first_from from told None before (Data start end clock (message.StreamCommit xid lsn done time) ∷ sent) le here at h all = absurd h.0
 first_from from told None before (Data start end clock (message.StreamAbort xid label) ∷ sent) le here at h all = absurd h.0
 first_from from told (Some l) before (Data start end clock (message.Commit lsn done time) ∷ sent) le here at h all =
-    has_first from (pair_commit (pair_of before) lsn done (pair_items before)
+    has_first from (pair_commit (pair_of before) lsn done time (pair_items before)
     ++ commits_and_keepalives (message.Commit lsn done time ∷ before) sent)
-    (first_pair from lsn done (pair_of before) (pair_items before) _ at.0 at.1 (let same : lsn ≡ l = h.0 in omega arith))
+    (first_pair from lsn done time (pair_of before) (pair_items before) _ at.0 at.1 (let same : lsn ≡ l = h.0 in omega arith))
 first_from from told (Some l) before (Data start end clock (message.Item xid item) ∷ sent) le here at h all =
     first_from from told (Some l) (message.Item xid item ∷ before) sent le here at h.1 all.1
 first_from from told (Some l) before (Data start end clock (message.Origin lsn name) ∷ sent) le here at h all =

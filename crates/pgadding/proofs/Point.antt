@@ -1,6 +1,6 @@
 -- At the point: the rows' transaction, and all that comes behind it.
 use Rattle.std.proofs.Common.{◌≡◌, ◌⊎◌, inl, inr, ◌++◌, ℕ, List, [], ◌∷◌, true, false, cond, eqb}
-use Rattle.std.proofs.Common.{◌&&◌, Option, Some, None, refl, sym, ap, ap₂, subst, ◌∙◌, arith}
+use Rattle.std.proofs.Common.{◌&&◌, ℤ, Option, Some, None, refl, sym, ap, ap₂, subst, ◌∙◌, arith}
 use Rattle.std.proofs.lemmas.Bool.Decides.{nat_tests}
 use Rattle.std.specs.List.{AllByRecursion}
 use Rattle.pglogical.specs.declared.message.RelationDef.{RelationDef}
@@ -32,14 +32,14 @@ record SamePair (before other : List Message) : Type 0 where
   items : (pair_of before ≡ None) ⊎ (pair_items before ≡ pair_items other)
   block : block_of before ≡ block_of other
 
-same_commit : (before other : List Message) → SamePair before other → (lsn end : ℕ)
-    → pair_commit (pair_of before) lsn end (pair_items before) ≡ pair_commit (pair_of other) lsn end (pair_items other)
-same_commit before other same lsn end =
-    elim same.items as (λ _. pair_commit (pair_of before) lsn end (pair_items before)
-    ≡ pair_commit (pair_of other) lsn end (pair_items other)) [
-      | inl none ↦ ap (λ (p : Option ℕ). pair_commit p lsn end (pair_items before)) none
-          ∙ sym (ap (λ (p : Option ℕ). pair_commit p lsn end (pair_items other)) (sym same.pair ∙ none))
-      | inr items ↦ ap₂ (λ (p : Option ℕ) (its : List Item). pair_commit p lsn end its) same.pair items
+same_commit : (before other : List Message) → SamePair before other → (lsn end : ℕ) (time : ℤ)
+    → pair_commit (pair_of before) lsn end time (pair_items before) ≡ pair_commit (pair_of other) lsn end time (pair_items other)
+same_commit before other same lsn end time =
+    elim same.items as (λ _. pair_commit (pair_of before) lsn end time (pair_items before)
+    ≡ pair_commit (pair_of other) lsn end time (pair_items other)) [
+      | inl none ↦ ap (λ (p : Option ℕ). pair_commit p lsn end time (pair_items before)) none
+          ∙ sym (ap (λ (p : Option ℕ). pair_commit p lsn end time (pair_items other)) (sym same.pair ∙ none))
+      | inr items ↦ ap₂ (λ (p : Option ℕ) (its : List Item). pair_commit p lsn end time its) same.pair items
     ]
 
 with_item : (before other : List Message) → SamePair before other → (xid : Option ℕ) (item : Item)
@@ -63,7 +63,7 @@ same_commits (Data start end clock (message.Begin lsn time xid) ∷ sent) before
     same_commits sent (message.Begin lsn time xid ∷ before) (message.Begin lsn time xid ∷ other)
     (record { pair = refl; items = inr refl; block = same.block }) whole.1
 same_commits (Data start end clock (message.Commit lsn done time) ∷ sent) before other same whole =
-    ap₂ (λ first rest. first ++ rest) (same_commit before other same lsn done)
+    ap₂ (λ first rest. first ++ rest) (same_commit before other same lsn done time)
     (same_commits sent (message.Commit lsn done time ∷ before) (message.Commit lsn done time ∷ other)
     (record { pair = refl; items = inl refl; block = same.block }) whole.1)
 same_commits (Data start end clock (message.Item xid item) ∷ sent) before other same whole =
@@ -148,7 +148,7 @@ at_point a below above before other earlier rest order whole at block seen nothi
       rows_items a,
       refl,
       nothing_all a.point oid below seen nothing,
-      (refl, refl, refl, refl),
+      (refl, refl, refl, refl, refl),
       rows_described a earlier,
       subst (λ known. CommitsFollow known above (commits_and_keepalives (with_rows_sent a other) rest)) (sym (rows_relations a earlier))
           moved,

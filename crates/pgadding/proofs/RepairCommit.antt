@@ -27,13 +27,15 @@ abbrev begun : Repair → List Message → List Message
 begun r before = message.Begin (repair_lsn r) r.clock rows_xid ∷ before
 
 pub repair-commits : (r : Repair) (before : List Message)
-    → commits_and_keepalives before (repair_sent r) ≡ Committed (WholeCommit rows_xid (repair_lsn r) (repair_end r) (repair_items r)) ∷ []
+    → commits_and_keepalives before (repair_sent r)
+    ≡ Committed (WholeCommit rows_xid (repair_lsn r) (repair_end r) r.clock (repair_items r)) ∷ []
 repair-commits r before =
     pushed-at (repair_lsn r) (repair_items r) (begun r before)
     (sent_at (repair_lsn r) (message.Commit (repair_lsn r) (repair_end r) r.clock) ∷ [])
-    ∙ ap (λ (p : Option ℕ). pair_commit p (repair_lsn r) (repair_end r) (pair_items (pushed None (repair_items r) (begun r before))) ++ [])
+    ∙ ap (λ (p : Option ℕ). pair_commit p (repair_lsn r) (repair_end r) r.clock
+    (pair_items (pushed None (repair_items r) (begun r before))) ++ [])
     (pushed-pair None (repair_items r) (begun r before))
-    ∙ ap (λ items. Committed (WholeCommit rows_xid (repair_lsn r) (repair_end r) items) ∷ [])
+    ∙ ap (λ items. Committed (WholeCommit rows_xid (repair_lsn r) (repair_end r) r.clock items) ∷ [])
     (pushed-items None (repair_items r) (begun r before))
 
 -- ---- what its items are

@@ -1,6 +1,6 @@
 -- What is passed on with a repair stands in order, and its commits follow in the history with it.
 use Rattle.std.proofs.Common.{◌≡◌, ◌<◌, ◌++◌, ℕ, List, [], ◌∷◌, true, false, cond, nat_le, Option}
-use Rattle.std.proofs.Common.{Some, None, refl, sym, ap, subst, ◌∙◌, arith, append_assoc}
+use Rattle.std.proofs.Common.{Some, None, ℤ, refl, sym, ap, subst, ◌∙◌, arith, append_assoc}
 use Rattle.std.proofs.Common.{append-nil}
 use Rattle.std.specs.List.{AllByRecursion}
 use Rattle.pglogical.specs.declared.message.RelationDef.{RelationDef}
@@ -112,16 +112,17 @@ repair_follows : (r : Repair) (below above : List Transaction) (before : List Me
     → CommitsFollow earlier (behind_repair r below above) (commits_and_keepalives before (repair_sent r))
 repair_follows r below above before earlier is nothing =
     subst (CommitsFollow earlier (behind_repair r below above)) (sym (repair-commits r before))
-    (below, repair_transaction r, above, repair_items r, refl, nothing, (refl, refl, refl, refl), repair_described r earlier is, tt)
+    (below, repair_transaction r, above, repair_items r, refl, nothing, (refl, refl, refl, refl, refl), repair_described r earlier is, tt)
 
 commit_follows : (r : Repair) (above : List Transaction) → AreUnseen r.point above
-    → (xid lsn end : ℕ) (items : List Item) (earlier : List RelationDef) (below : List Transaction) (ms passed : List CommitOrKeepalive)
+    → (xid lsn end : ℕ) (time : ℤ) (items : List Item) (earlier : List RelationDef) (below : List Transaction)
+    (ms passed : List CommitOrKeepalive)
     → AreSeen r.point below → lsn < r.point
-    → CommitsFollow earlier (below ++ above) (Committed (WholeCommit xid lsn end items) ∷ ms)
+    → CommitsFollow earlier (below ++ above) (Committed (WholeCommit xid lsn end time items) ∷ ms)
     → ((more : List Transaction) → AreSeen r.point more → CommitsFollow (relations_after earlier items) (more ++ above) ms
     → CommitsFollow (relations_after earlier items) (behind_repair r more above) passed)
-    → CommitsFollow earlier (behind_repair r below above) (Committed (WholeCommit xid lsn end items) ∷ passed)
-commit_follows r above unseen xid lsn end items earlier below ms passed seen early h then =
+    → CommitsFollow earlier (behind_repair r below above) (Committed (WholeCommit xid lsn end time items) ∷ passed)
+commit_follows r above unseen xid lsn end time items earlier below ms passed seen early h then =
     let out = h.0 in
     let t = h.1 in
     let at : lsn ≡ t.lsn = h.6.1 in
@@ -131,7 +132,7 @@ commit_follows r above unseen xid lsn end items earlier below ms passed seen ear
     let rest : AreSeen r.point (t ∷ it.more) = all_right (IsSeen r.point) out (t ∷ it.more) each in
     let behind = repair_transaction r ∷ above in
     let later : CommitsFollow (relations_after earlier items) (it.more ++ above) ms =
-    subst (λ its. CommitsFollow (relations_after earlier its) (it.more ++ above) ms) h.6.3
+    subst (λ its. CommitsFollow (relations_after earlier its) (it.more ++ above) ms) h.6.4
     (subst (λ ts. CommitsFollow (relations_after earlier h.3) ts ms) it.rest h.8) in (
       out,
       t,
@@ -141,7 +142,7 @@ commit_follows r above unseen xid lsn end items earlier below ms passed seen ear
       h.5,
       h.6,
       h.7,
-      subst (λ its. CommitsFollow (relations_after earlier its) (behind_repair r it.more above) passed) (sym h.6.3)
+      subst (λ its. CommitsFollow (relations_after earlier its) (behind_repair r it.more above) passed) (sym h.6.4)
           (then it.more rest.1 later),
     )
 
@@ -221,13 +222,14 @@ repair_passed r above is unseen (Data start end clock (message.Commit lsn done t
     let same : lsn ≡ l = h.order.0 in
     let here : l < r.point = h.here in
     let early : lsn < r.point = omega arith in
-    let came : CommitsFollow earlier (below ++ above) (Committed (WholeCommit h.at.0 lsn done items) ∷ ms) =
-    subst (λ (p : Option ℕ). CommitsFollow earlier (below ++ above) (pair_commit p lsn done items ++ ms)) h.at.1 h.follow in
-    let goes : CommitsFollow earlier (behind_repair r below above) (Committed (WholeCommit h.at.0 lsn done items) ∷ passed) =
-    commit_follows r above unseen h.at.0 lsn done items earlier below ms passed h.seen early came (λ more seen follow.
+    let came : CommitsFollow earlier (below ++ above) (Committed (WholeCommit h.at.0 lsn done time items) ∷ ms) =
+    subst (λ (p : Option ℕ). CommitsFollow earlier (below ++ above) (pair_commit p lsn done time items ++ ms)) h.at.1 h.follow in
+    let goes : CommitsFollow earlier (behind_repair r below above) (Committed (WholeCommit h.at.0 lsn done time items) ∷ passed) =
+    commit_follows r above unseen h.at.0 lsn done time items earlier below ms passed h.seen early came (λ more seen follow.
     repair_passed r above is unseen sent None (closed ∷ before) (relations_after earlier items) more
     (record { order = h.order.1; ends = h.ends; at = refl; here = tt; seen = seen; follow = follow })) in
-    subst (λ (p : Option ℕ). CommitsFollow earlier (behind_repair r below above) (pair_commit p lsn done items ++ passed)) (sym h.at.1) goes
+    subst (λ (p : Option ℕ). CommitsFollow earlier (behind_repair r below above) (pair_commit p lsn done time items ++ passed))
+    (sym h.at.1) goes
 repair_passed r above is unseen (Data start end clock (message.Item xid item) ∷ sent) (Some l) before earlier below h =
     repair_passed r above is unseen sent (Some l) (message.Item xid item ∷ before) earlier below
     (record { order = h.order.1; ends = h.ends; at = h.at; here = h.here; seen = h.seen; follow = h.follow })

@@ -54,7 +54,7 @@ abbrev pub with_rows_sent : Addition → List Message → List Message
 with_rows_sent a before = message.Commit (rows_lsn a) (rows_end a) a.clock ∷ pushed None (rows_items a) (begun a before)
 
 abbrev pub rows_commit : Addition → CommitOrKeepalive
-rows_commit a = Committed (WholeCommit rows_xid (rows_lsn a) (rows_end a) (rows_items a))
+rows_commit a = Committed (WholeCommit rows_xid (rows_lsn a) (rows_end a) a.clock (rows_items a))
 
 pub rows-commits : (a : Addition) (before : List Message) (sent : List Sent)
     → commits_and_keepalives before (rows_sent a ++ sent) ≡ rows_commit a ∷ commits_and_keepalives (with_rows_sent a before) sent
@@ -64,9 +64,10 @@ rows-commits a before sent =
     sent)
     ∙ pushed-at (rows_lsn a) (rows_items a) (begun a before)
     (sent_at (rows_lsn a) (message.Commit (rows_lsn a) (rows_end a) a.clock) ∷ sent)
-    ∙ ap (λ (p : Option ℕ). pair_commit p (rows_lsn a) (rows_end a) (pair_items (pushed None (rows_items a) (begun a before)))
+    ∙ ap (λ (p : Option ℕ). pair_commit p (rows_lsn a) (rows_end a) a.clock (pair_items (pushed None (rows_items a) (begun a before)))
     ++ commits_and_keepalives (with_rows_sent a before) sent) (pushed-pair None (rows_items a) (begun a before))
-    ∙ ap (λ items. Committed (WholeCommit rows_xid (rows_lsn a) (rows_end a) items) ∷ commits_and_keepalives (with_rows_sent a before) sent)
+    ∙ ap (λ items. Committed (WholeCommit rows_xid (rows_lsn a) (rows_end a) a.clock items)
+    ∷ commits_and_keepalives (with_rows_sent a before) sent)
     (pushed-items None (rows_items a) (begun a before))
 
 pub rows-block : (a : Addition) (before : List Message) → block_of (with_rows_sent a before) ≡ block_of before

@@ -46,13 +46,13 @@ delivered = record {
         items_seen,
         refl,
         tt,
-        (refl, refl, refl, refl),
+        (refl, refl, refl, refl, refl),
         refl,
         (
           ((λ _. omega arith), tt),
           (
             ((λ _. omega arith), tt),
-            (((λ _. omega arith), tt), ([], _, [], Insert 16384 (row 51) ∷ [], refl, tt, (refl, refl, refl, refl), refl, tt)),
+            (((λ _. omega arith), tt), ([], _, [], Insert 16384 (row 51) ∷ [], refl, tt, (refl, refl, refl, refl, refl), refl, tt)),
           ),
         ),
       ),

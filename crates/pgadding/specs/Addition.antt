@@ -65,4 +65,4 @@ rows_work a = Changed (emptied a) (a.definition ∷ []) (inserted a.definition a
 -- the transaction in the history
 abbrev pub rows_transaction : Addition → Transaction
 rows_transaction a =
-    record { xid = rows_xid; work = rows_work a; lsn = rows_lsn a; end = rows_end a }
+    record { xid = rows_xid; work = rows_work a; lsn = rows_lsn a; end = rows_end a; time = a.clock }

@@ -1,7 +1,7 @@
 -- Part of the statement.
 -- Tables of any content are given by a history, that of one transaction. So a copy of which any row
 -- may be wrong is repaired.
-use Rattle.std.specs.Prelude.{◌≡◌, ◌<◌, ◌≤◌, ℕ, List, [], ◌∷◌, ◌++◌, Ok}
+use Rattle.std.specs.Prelude.{◌≡◌, ◌<◌, ◌≤◌, ℕ, pos, List, [], ◌∷◌, ◌++◌, Ok}
 use Rattle.std.specs.FinMap as finite
 use Rattle.std.specs.List.{AllByRecursion, flat_map}
 use Rattle.pglogical.specs.declared.message.RelationDef.{RelationDef}
@@ -44,6 +44,7 @@ giving tables =
       work = giving_work (finite.entries tables) Nothing;
       lsn = 0;
       end = 1;
+      time = pos 0;
     }
 
 abbrev pub AnyTablesAreGiven : Type 0

@@ -49,7 +49,7 @@ work_without oid (RolledBack xid inside rest) = RolledBack xid inside (work_with
 
 abbrev pub transaction_without : ℕ → Transaction → Transaction
 transaction_without oid t =
-    record { xid = t.xid; work = work_without oid t.work; lsn = t.lsn; end = t.end }
+    record t { work = work_without oid t.work }
 
 abbrev pub transactions_without : ℕ → List Transaction → List Transaction
 transactions_without oid ts = map (transaction_without oid) ts

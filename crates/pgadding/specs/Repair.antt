@@ -60,6 +60,7 @@ repair_transaction r =
       work = mended_work r.tables;
       lsn = repair_lsn r;
       end = repair_end r;
+      time = r.clock;
     }
 
 -- a change of a row of this table

@@ -113,10 +113,10 @@ abbrev pub work_unseen : Work
 work_unseen = Changed (Insert 16384 (row 51)) (t ∷ []) Nothing
 
 abbrev pub below : List Transaction
-below = record { xid = 700; work = work_seen; lsn = 912; end = 928 } ∷ []
+below = record { xid = 700; work = work_seen; lsn = 912; end = 928; time = pos 0 } ∷ []
 
 abbrev pub above : List Transaction
-above = record { xid = 701; work = work_unseen; lsn = 1000; end = 1040 } ∷ []
+above = record { xid = 701; work = work_unseen; lsn = 1000; end = 1040; time = pos 0 } ∷ []
 
 abbrev pub session : List Sent
 session = keepalive 904 ∷ (seen_with [] ++ keepalive 999 ∷ keepalive 1000 ∷ unseen)

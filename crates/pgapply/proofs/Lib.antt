@@ -3,6 +3,7 @@ pub mod Working
 mod Relations
 mod EffectRows
 mod MissingRows
+mod TallyRows
 mod WorkRows
 mod DumpRows
 pub mod Causes

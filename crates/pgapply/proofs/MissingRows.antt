@@ -71,7 +71,7 @@ carried_is_missed = simp lookups
 
 -- ---- changes in order
 
-abbrev delete_t : ℕ → Change
+abbrev pub delete_t : ℕ → Change
 delete_t key = record { definition = t; op = op.Delete Key (text key ∷ Null ∷ []) }
 
 -- a relation of which nothing came yet

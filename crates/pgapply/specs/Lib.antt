@@ -3,6 +3,7 @@ pub mod Apply
 pub mod Dump
 pub mod Given
 pub mod Missing
+pub mod Tallies
 pub mod Stored
 pub mod Works
 pub mod Noted

@@ -1,6 +1,6 @@
 -- Which changes find no row, and how they are counted.
 -- PostgreSQL documentation, Logical Replication, Conflicts, update_missing and delete_missing.
-use Rattle.std.specs.Prelude.{◌≡◌, ◌+◌, ◌-◌, ◌^◌, ◌++◌, min, ℕ, List, [], ◌∷◌, Bool, false, Option}
+use Rattle.std.specs.Prelude.{◌+◌, ◌-◌, ◌^◌, ◌++◌, min, ℕ, List, [], ◌∷◌, Bool, false, Option}
 use Rattle.std.specs.Prelude.{Some, None, Result, Ok, Err, is_none, if◌then◌else◌}
 use Rattle.std.specs.FinMap as map
 use Rattle.pgtuple.specs.declared.cell.Cell.{Cell}
@@ -67,8 +67,3 @@ with_miss m end oid = record { count = min (m.count + 1) (2 ^ 64 - 1); first = f
 abbrev pub with_misses : Misses → ℕ → List ℕ → Misses
 with_misses m end [] = m
 with_misses m end (oid ∷ oids) = with_misses (with_miss m end oid) end oids
-
-module _ {S : Type 0} (holds : S → Tables → Type 0) where
-  -- behind the changes of a commit that ends here, those that found no row are counted
-  abbrev pub Counts : S → List Change → ℕ → Misses → Misses → Type 0
-  Counts old changes end before behind = (tables : Tables) → holds old tables → behind ≡ with_misses before end (all_missing tables changes)

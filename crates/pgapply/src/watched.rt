@@ -1,10 +1,10 @@
 //! A store that notes which relations its commits change, as a cache beside it needs.
 
-ghost use Rattle.std.specs.Prelude.{◌≡◌, ◌<◌, ◌⊎◌, [], true, false, OnOk, OnErr, IfOk, IfErr};
+ghost use Rattle.std.specs.Prelude.{◌≡◌, ◌<◌, ◌⊎◌, [], true, false, None, OnOk, OnErr, IfOk, IfErr};
 ghost use Rattle.pgapply.specs.Value.{Tables};
 ghost use Rattle.pgapply.specs.Dump.{dump};
 ghost use Rattle.pgapply.specs.Given.{GivesFront, GivesAll};
-ghost use Rattle.pgapply.specs.Missing.{Counts};
+ghost use Rattle.pgapply.specs.Tallies.{Counts};
 ghost use Rattle.pgapply.specs.Noted.{noted, KeepsNotes};
 ghost use Rattle.pgapply.specs.Stored.{IsOwnFault};
 ghost use Rattle.pgapply.specs.Taken.{Folds, LeavesFold, LeavesStaged, Begins, Settles, Stays};
@@ -87,9 +87,9 @@ impl<C: ReplicaStore + Drop> ReplicaStore for Watched<C> {
 
     ghost reach = { λ s. C.reach s.store };
 
-    ghost missed = { λ s. C.missed s.store };
+    ghost tally = { λ s. C.tally s.store };
 
-    ghost stages_missed = { λ s. C.stages_missed s.store };
+    ghost stages_tally = { λ s. C.stages_tally s.store };
 
     ghost reopens = { λ s other. C.reopens s.store other.store };
 
@@ -108,8 +108,8 @@ impl<C: ReplicaStore + Drop> ReplicaStore for Watched<C> {
         ensures position { C.place self.new.store ≡ C.place self.old.store }
         ensures unchanged { Stays C.holds self.old.store self.new.store }
         ensures staged { Begins C.holds C.stages self.old.store self.new.store }
-        ensures missed { C.missed self.new.store ≡ C.missed self.old.store }
-        ensures unstaged { C.stages_missed self.new.store ≡ C.missed self.old.store }
+        ensures tally { C.tally self.new.store ≡ C.tally self.old.store }
+        ensures unstaged { C.stages_tally self.new.store ≡ C.tally self.old.store }
         ensures serves { C.serves self.old.store → C.serves self.new.store }
         ensures served { C.serves self.new.store → C.serves self.old.store }
         ensures stays_honest { C.is_honest self.old.store → C.is_honest self.new.store }
@@ -139,11 +139,11 @@ impl<C: ReplicaStore + Drop> ReplicaStore for Watched<C> {
         ensures unchanged { C.serves self.new.store → Stays C.holds self.old.store self.new.store }
         ensures position { C.place self.new.store ≡ C.place self.old.store }
         ensures counts { C.serves self.new.store → OnOk result (Counts C.stages self.old.store
-            commit.now.work.now.changes commit.now.end (C.stages_missed self.old.store)
-            (C.stages_missed self.new.store)) }
+            commit.now.end commit.now.about commit.now.work.now.changes
+            (C.stages_tally self.old.store) (C.stages_tally self.new.store)) }
         ensures uncounted { OnErr result
-            (C.stages_missed self.new.store ≡ C.stages_missed self.old.store) }
-        ensures missed { C.missed self.new.store ≡ C.missed self.old.store }
+            (C.stages_tally self.new.store ≡ C.stages_tally self.old.store) }
+        ensures tally { C.tally self.new.store ≡ C.tally self.old.store }
         ensures served { C.serves self.new.store → C.serves self.old.store }
         ensures open { C.is_honest self.new.store → OnOk result (C.serves self.new.store) }
         ensures honest { C.is_honest self.new.store → C.is_honest self.old.store }
@@ -168,8 +168,8 @@ impl<C: ReplicaStore + Drop> ReplicaStore for Watched<C> {
             self.new ≡ self.old }
         ensures fault { IfErr result IsOwnFault }
         ensures none { C.reach self.new.store ≡ C.place self.new.store }
-        ensures counts { OnOk result (C.missed self.new.store ≡ C.stages_missed self.old.store) }
-        ensures uncounted { OnErr result (C.missed self.new.store ≡ C.missed self.old.store) }
+        ensures counts { OnOk result (C.tally self.new.store ≡ C.stages_tally self.old.store) }
+        ensures uncounted { OnErr result (C.tally self.new.store ≡ C.tally self.old.store) }
         ensures served { C.serves self.new.store → C.serves self.old.store }
         ensures open { C.is_honest self.new.store →
             C.place self.old.store < C.reach self.old.store →
@@ -200,9 +200,9 @@ impl<C: ReplicaStore + Drop> ReplicaStore for Watched<C> {
         ensures why { C.is_honest self.new.store → C.serves self.old.store → IfErr result
             (RefusesWork C.holds self.old.store work.now.changes) }
         ensures none { OnOk result (C.reach self.new.store ≡ C.place self.new.store) }
-        ensures counts { C.serves self.new.store → OnOk result (Counts C.holds self.old.store
-            work.now.changes end (C.missed self.old.store) (C.missed self.new.store)) }
-        ensures uncounted { OnErr result (C.missed self.new.store ≡ C.missed self.old.store) }
+        ensures counts { C.serves self.new.store → OnOk result (Counts C.holds self.old.store end
+            None work.now.changes (C.tally self.old.store) (C.tally self.new.store)) }
+        ensures uncounted { OnErr result (C.tally self.new.store ≡ C.tally self.old.store) }
         ensures served { C.serves self.new.store → C.serves self.old.store }
         ensures open { C.is_honest self.new.store → OnOk result (C.serves self.new.store) }
         ensures honest { C.is_honest self.new.store → C.is_honest self.old.store }
@@ -220,8 +220,8 @@ impl<C: ReplicaStore + Drop> ReplicaStore for Watched<C> {
         ensures noted { self.new.changed.items ≡ self.old.changed.items }
         ensures hears { HearsOnly (λ s. C.serves s.store) (λ s. C.is_honest s.store)
             (λ s tables. C.holds s.store tables) (λ s tables. C.stages s.store tables)
-            (λ s. C.place s.store) (λ s. C.reach s.store) (λ s. C.missed s.store)
-            (λ s. C.stages_missed s.store) (λ s other. C.reopens s.store other.store) self.old
+            (λ s. C.place s.store) (λ s. C.reach s.store) (λ s. C.tally s.store)
+            (λ s. C.stages_tally s.store) (λ s other. C.reopens s.store other.store) self.old
             self.new }
     {
         self.store.hear(message);
@@ -233,8 +233,8 @@ impl<C: ReplicaStore + Drop> ReplicaStore for Watched<C> {
         ensures noted { self.new.changed.items ≡ self.old.changed.items }
         ensures forgets { HearsOnly (λ s. C.serves s.store) (λ s. C.is_honest s.store)
             (λ s tables. C.holds s.store tables) (λ s tables. C.stages s.store tables)
-            (λ s. C.place s.store) (λ s. C.reach s.store) (λ s. C.missed s.store)
-            (λ s. C.stages_missed s.store) (λ s other. C.reopens s.store other.store) self.old
+            (λ s. C.place s.store) (λ s. C.reach s.store) (λ s. C.tally s.store)
+            (λ s. C.stages_tally s.store) (λ s other. C.reopens s.store other.store) self.old
             self.new }
     {
         self.store.forget();
@@ -250,7 +250,7 @@ impl<C: ReplicaStore + Drop> ReplicaStore for Watched<C> {
         ensures fault { C.is_honest self.new.store → IfErr result IsOwnFault }
         ensures serving_fault { C.serves self.new.store → IfErr result IsOwnFault }
         ensures none { C.reach self.new.store ≡ C.place self.new.store }
-        ensures missed { C.missed self.new.store ≡ C.missed self.old.store }
+        ensures tally { C.tally self.new.store ≡ C.tally self.old.store }
         ensures served { C.serves self.new.store → C.serves self.old.store }
         ensures open { C.is_honest self.new.store → OnOk result (C.serves self.new.store) }
         ensures honest { C.is_honest self.new.store → C.is_honest self.old.store }
@@ -276,7 +276,7 @@ impl<C: ReplicaStore + Drop> ReplicaStore for Watched<C> {
         ensures fault { C.is_honest self.new.store → IfErr result.0 IsOwnFault }
         ensures serving_fault { C.serves self.new.store → IfErr result.0 IsOwnFault }
         ensures none { C.reach self.new.store ≡ C.place self.new.store }
-        ensures missed { C.missed self.new.store ≡ C.missed self.old.store }
+        ensures tally { C.tally self.new.store ≡ C.tally self.old.store }
         ensures served { C.serves self.new.store → C.serves self.old.store }
         ensures open { C.is_honest self.new.store → OnOk result.0 (C.serves self.new.store) }
         ensures honest { C.is_honest self.new.store → C.is_honest self.old.store }

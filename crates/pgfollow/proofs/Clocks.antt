@@ -23,7 +23,7 @@ use Rattle.pgsub_core.specs.Machine.Taking.{take, taken_with, take_message, take
 use Rattle.pgsub_core.specs.Machine.Taking.{take_frame, take_frames, handled, passes_limit}
 use Rattle.pgsub_core.specs.Machine.Taking.{message_passes_limit}
 use Rattle.pgsub_core.specs.Machine.Feeding.{IsFedWhole, IsFedUntil}
-use Rattle.pgapply.specs.declared.misses.Misses.{Misses}
+use Rattle.pgapply.specs.Tallies.{Tally}
 use Rattle.pgsub_core.specs.Machine.Counted.{decoded_counted, payload_counted, frame_counted}
 use Rattle.pgsub_core.specs.Machine.Counted.{counted_behind, frames_counted, IsCountedWhole}
 use Rattle.pgsub_core.specs.Machine.Counted.{IsCountedFront}
@@ -39,11 +39,11 @@ TakesAlike (Stopped s why) o = Unit {0}
 
 passes_quiet : (r : List ℕ) (s : Subscribed) (k : Kind) → passes_limit (quiet r s) k ≡ passes_limit s k
 passes_quiet r s (BeginsPair xid) = refl
-passes_quiet r s (CommitsPair lsn end) = refl
+passes_quiet r s (CommitsPair lsn end time) = refl
 passes_quiet r s (Holds subxid item) = refl
 passes_quiet r s (StartsBlock xid first) = refl
 passes_quiet r s StopsBlock = refl
-passes_quiet r s (CommitsStream xid lsn end) = refl
+passes_quiet r s (CommitsStream xid lsn end time) = refl
 passes_quiet r s (AbortsStream xid subxid) = refl
 passes_quiet r s ChangesNothing = refl
 
@@ -160,7 +160,7 @@ until_quiet now now' r old new piece f fed =
 
 -- ---- what is counted
 
-payload_count_quiet : (r : List ℕ) (s : Subscribed) (res : Result ServerMessage WireFault) (m : Misses)
+payload_count_quiet : (r : List ℕ) (s : Subscribed) (res : Result ServerMessage WireFault) (m : Tally)
     → payload_counted (quiet r s) res m ≡ payload_counted s res m
 payload_count_quiet r s (Ok (XLogData start end clock body)) m = by (message_at (is_in_block s.order.context) body)
   where
@@ -170,11 +170,11 @@ payload_count_quiet r s (Ok (XLogData start end clock body)) m = by (message_at 
 payload_count_quiet r s (Ok (Keepalive end clock asks)) m = refl
 payload_count_quiet r s (Err k) m = refl
 
-frame_count_quiet : (r : List ℕ) (s : Subscribed) (f : Frame) (m : Misses) → frame_counted (quiet r s) f m ≡ frame_counted s f m
+frame_count_quiet : (r : List ℕ) (s : Subscribed) (f : Frame) (m : Tally) → frame_counted (quiet r s) f m ≡ frame_counted s f m
 frame_count_quiet r s (CopyData bytes) m = payload_count_quiet r s (payload_at bytes) m
 frame_count_quiet r s CopyDone m = refl
 
-count_quiet : (now now' : ℤ) (fs : List Frame) (r : List ℕ) (s last : Subscribed) (m : Misses) → take_frames now s fs ≡ Running last
+count_quiet : (now now' : ℤ) (fs : List Frame) (r : List ℕ) (s last : Subscribed) (m : Tally) → take_frames now s fs ≡ Running last
     → frames_counted now' (quiet r s) fs m ≡ frames_counted now s fs m
 count_quiet now now' [] r s last m h = refl
 count_quiet now now' (f ∷ fs) r s last m h =
@@ -182,13 +182,13 @@ count_quiet now now' (f ∷ fs) r s last m h =
     let alike : TakesAlike (Running through.0) (take_frame now' (quiet r s) f) =
     subst (λ (o : Outcome Subscribed Fault). TakesAlike o (take_frame now' (quiet r s) f)) through.1 (frame_quiet now now' r s f) in
     let k = frame_counted s f m in
-    ap (λ (x : Misses). counted_behind (take_frame now' (quiet r s) f) (λ next. frames_counted now' next fs x) x)
+    ap (λ (x : Tally). counted_behind (take_frame now' (quiet r s) f) (λ next. frames_counted now' next fs x) x)
     (frame_count_quiet r s f m)
     ∙ ap (λ (o : Outcome Subscribed Fault). counted_behind o (λ next. frames_counted now' next fs k) k) alike.1
     ∙ count_quiet now now' fs alike.0 through.0 last k through.2
     ∙ sym (ap (λ (o : Outcome Subscribed Fault). counted_behind o (λ next. frames_counted now next fs k) k) through.1)
 
-pub counted_quiet : (now now' : ℤ) (r : List ℕ) (old : Subscribed) (piece : List ℕ) (position : ℕ) (before behind : Misses)
+pub counted_quiet : (now now' : ℤ) (r : List ℕ) (old : Subscribed) (piece : List ℕ) (position : ℕ) (before behind : Tally)
     → IsCountedWhole now old piece position before behind → IsCountedWhole now' (quiet r old) piece position before behind
 counted_quiet now now' r old piece position before behind c =
     let alike : TakesAlike (Running c.state) (take_frames now' (quiet r old) c.fs) =
@@ -204,7 +204,7 @@ counted_quiet now now' r old piece position before behind c =
       counts = c.counts ∙ sym (count_quiet now now' c.fs r old c.state before c.takes);
     }
 
-pub front_quiet : (now now' : ℤ) (r : List ℕ) (old : Subscribed) (piece : List ℕ) (position : ℕ) (before behind : Misses)
+pub front_quiet : (now now' : ℤ) (r : List ℕ) (old : Subscribed) (piece : List ℕ) (position : ℕ) (before behind : Tally)
     → IsCountedFront now old piece position before behind → IsCountedFront now' (quiet r old) piece position before behind
 front_quiet now now' r old piece position before behind c =
     let alike : TakesAlike (Running c.state) (take_frames now' (quiet r old) c.fs) =

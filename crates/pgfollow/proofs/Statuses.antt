@@ -2,7 +2,7 @@
 use Rattle.std.proofs.Common.{◌≡◌, ◌∙◌, ◌++◌, ℕ, ℤ, List, [], ◌∷◌, Bool, true, false, refl, sym}
 use Rattle.std.proofs.Common.{ap, subst, arith}
 use Rattle.std.specs.FinMap as map
-use Rattle.pgapply.specs.declared.misses.Misses.{Misses}
+use Rattle.pgapply.specs.Tallies.{Tally}
 use Rattle.pgapply.specs.Value.{Tables}
 use Rattle.pgsub_core.specs.Subscriber.Subscribed.{Subscribed}
 use Rattle.pgsub_core.specs.Subscriber.SubscriberValue.{SubscriberValue, seen, Feeds}
@@ -20,7 +20,7 @@ settled_confirmed false s = refl
 settled_confirmed true s = refl
 
 module _ {C : Type 0} (holds : C → Tables → Type 0) (place : C → ℕ) (reopens : C → C → Type 0) (serves : C → Type 0)
-    (count : C → Misses) where
+    (count : C → Tally) where
   pub after_replies : (old : SubscriberValue C) (step : Step C) → IsStep holds place reopens serves count old step
       → step.after.applied.replies ≡ []
   after_replies old step is =

@@ -8,7 +8,7 @@ use Rattle.std.specs.List.{AllByRecursion}
 use Rattle.std.specs.Io.KnownBytes.{Appends, Consumes}
 use Rattle.std.proofs.KnownBytes.{Appends-nil, Appends-trans, Consumes-nil, Consumes-trans}
 use Rattle.pgwire.specs.Statuses.{status_frame}
-use Rattle.pgapply.specs.declared.misses.Misses.{Misses}
+use Rattle.pgapply.specs.Tallies.{Tally}
 use Rattle.pgapply.specs.Value.{Tables}
 use Rattle.pgsub_core.specs.declared.fault.Fault.{Fault}
 use Rattle.pgsub_core.specs.declared.fault.Fault.TheVariants as fault
@@ -108,7 +108,7 @@ module _ {C : Type 0} (place : C → ℕ) (z : ℤ) (old mid told : SubscriberVa
 -- ---- a part
 
 module _ {C : Type 0} (holds : C → Tables → Type 0) (place : C → ℕ) (reopens : C → C → Type 0) (serves : C → Type 0)
-    (count : C → Misses) where
+    (count : C → Tally) where
   module _ (z : ℤ) (old fed told : SubscriberValue C) (part : List ℕ) (is_fed : IsFedPart holds place reopens serves count z old part fed)
       (store : told.applied.store ≡ fed.applied.store) where
     -- what is to be told waits, and is written

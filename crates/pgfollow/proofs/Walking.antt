@@ -3,7 +3,7 @@ use Rattle.std.proofs.Common.{◌≡◌, ◌≤◌, ◌∙◌, ◌++◌, ◌⊎�
 use Rattle.std.proofs.Common.{false, Option, Some, None, Ok, pos, refl, sym, ap, subst}
 use Rattle.std.proofs.Common.{append_assoc, append-nil, arith}
 use Rattle.std.specs.FinMap as map
-use Rattle.pgapply.specs.declared.misses.Misses.{Misses}
+use Rattle.pgapply.specs.Tallies.{Tally}
 use Rattle.pgapply.specs.Value.{Tables}
 use Rattle.pgapply.specs.Taken as held
 use Rattle.pgsub_core.specs.declared.fault.Fault.{Fault}
@@ -17,7 +17,7 @@ use Rattle.pgsub_core.specs.Machine.Feeding.{IsFedWhole, IsFedUntil}
 use Rattle.pgsub_core.specs.Subscriber.Following.{AreFedWhole}
 use Rattle.pgsub_core.specs.Machine.Counted.{IsCountedWhole, IsCountedFront, AreCountedWhole}
 use Rattle.pgsub_core.specs.Machine.Counted.{FeedsCounted}
-use Rattle.pgsub_core.specs.Subscriber.Missed.{history_missed, CountsHistory}
+use Rattle.pgsub_core.specs.Subscriber.Tallied.{history_tallied, CountsHistory}
 use Rattle.pgsub_core.specs.Subscriber.Safely.{IsSent}
 use Rattle.pgsub_core.specs.Subscriber.Confirming.{AreSafeReplies}
 use Rattle.pgsub_core.specs.Subscriber.Crashing.{LeavesOldOr, FedOver, IsLeftSafely}
@@ -27,7 +27,7 @@ use Rattle.pgsub_core.proofs.Pieces.{two_pieces, piece_then_stop, nothing_fed, c
 use Rattle.pgsub_core.proofs.Pieces.{front_pieces, front_stands}
 use Rattle.pgsub_core.proofs.CountedPieces.{is_front}
 use Rattle.pgsub_core.proofs.CountedSessions.{nothing_counted, sessions_and, sessions_then}
-use Rattle.pgsub_core.proofs.MissedSessions.{counted_of_history}
+use Rattle.pgsub_core.proofs.TalliedSessions.{counted_of_history}
 use Rattle.pgfollow.specs.declared.fault.FollowFault.{FollowFault}
 use Rattle.pgfollow.specs.declared.fault.FollowFault.TheVariants as follow
 use Rattle.pgfollow.specs.Live.{IsStart, IsGreeted, StopsGreeting, Step, IsStep, AreSteps}
@@ -55,7 +55,7 @@ abbrev noon : ℤ
 noon = pos 0
 
 module _ {C : Type 0} (holds : C → Tables → Type 0) (place : C → ℕ) (reopens : C → C → Type 0) (serves : C → Type 0)
-    (count : C → Misses) where
+    (count : C → Tally) where
   left_same : (history : List Transaction) (a b : SubscriberValue C) (other : C) → b.applied.store ≡ a.applied.store
       → b.applied.confirmed ≡ a.applied.confirmed → IsLeftSafely holds place history a other → IsLeftSafely holds place history b other
   left_same history a b other store confirmed left = record {
@@ -71,7 +71,7 @@ module _ {C : Type 0} (holds : C → Tables → Type 0) (place : C → ℕ) (reo
   leaves_same history a b store confirmed left other opens =
       left_same history a b other store confirmed (left other (subst (λ (x : C). reopens x other) store opens))
 
-  module _ (history : List Transaction) (b : Subscribed) (none_waits : b.replies ≡ []) (first_count : Misses) where
+  module _ (history : List Transaction) (b : Subscribed) (none_waits : b.replies ≡ []) (first_count : Tally) where
     -- Whoever were fed these sessions and the first bytes of one more, at noon, is the same but for
     -- what waits to be sent, and has counted the same.
     record Stands (done : List (List ℕ)) (begun : List ℕ) (s : SubscriberValue C) : Type 0 where
@@ -82,7 +82,7 @@ module _ {C : Type 0} (holds : C → Tables → Type 0) (place : C → ℕ) (reo
       tables : Tables
       held : holds s.applied.store tables
       same : seen place s tables ≡ quiet [] ideal
-      counted : Misses
+      counted : Tally
       counts_before : AreCountedWhole noon b done base first_count counted
       counts : IsCountedWhole noon (disconnect base) begun ideal.position counted (count s.applied.store)
 
@@ -416,9 +416,9 @@ module _ {C : Type 0} (holds : C → Tables → Type 0) (place : C → ℕ) (reo
     -- ---- what is counted
 
     -- of a front of the last session
-    walked_counts : (mid : SubscriberValue C) (rest : List ℕ) (walked : Walked mid rest) (position : ℕ) (behind : Misses)
+    walked_counts : (mid : SubscriberValue C) (rest : List ℕ) (walked : Walked mid rest) (position : ℕ) (behind : Tally)
         → IsCountedFront noon (disconnect walked.stands.base) (walked.begun ++ rest) position walked.stands.counted behind
-        → behind ≡ history_missed history b.position position first_count
+        → behind ≡ history_tallied history b.position position first_count
     walked_counts mid rest walked position behind front =
         let coming = walked.coming in
         let stands = walked.stands in
@@ -430,7 +430,7 @@ module _ {C : Type 0} (holds : C → Tables → Type 0) (place : C → ℕ) (reo
 
     -- where all that was read is fed
     all_counts : (mid : SubscriberValue C) → Walked mid []
-        → count mid.applied.store ≡ history_missed history b.position (place mid.applied.store) first_count
+        → count mid.applied.store ≡ history_tallied history b.position (place mid.applied.store) first_count
     all_counts mid walked =
         let stands = walked.stands in
         let at : place mid.applied.store ≡ stands.ideal.position = ap (λ (x : Subscribed). x.position) stands.same in
@@ -509,18 +509,18 @@ module _ {C : Type 0} (holds : C → Tables → Type 0) (place : C → ℕ) (reo
           by_part (inr untold) = leaves_same history untold.1.fed new untold.1.store untold.1.confirmed (untold_left stops.1.0 [] untold.1)
 
       untold_counts : (now : ℤ) (front : List ℕ) → IsUntold holds place reopens serves count now mid part new front
-          → count new.applied.store ≡ history_missed history b.position (place new.applied.store) first_count
+          → count new.applied.store ≡ history_tallied history b.position (place new.applied.store) first_count
       untold_counts now front untold =
           let f = one_fed walked.done walked.begun part mid walked.stands now untold.fed untold.is_fed.feeds untold.is_fed.counts in
           let fed = untold.fed.applied.store in
-          subst (λ (s : C). count s ≡ history_missed history b.position (place s) first_count) (sym untold.store)
+          subst (λ (s : C). count s ≡ history_tallied history b.position (place s) first_count) (sym untold.store)
           (walked_counts mid part walked (place fed) (count fed)
           (is_front noon (disconnect walked.stands.base) (walked.begun ++ part) (place fed) walked.stands.counted (count fed)
           (subst (λ n. IsCountedWhole noon (disconnect walked.stands.base) (walked.begun ++ part) n walked.stands.counted (count fed))
           (sym (ap (λ (x : Subscribed). x.position) f.same)) f.counts)))
 
       unfed_counts : (now : ℤ) (f : Fault) → serves new.applied.store → IsUnfed holds place reopens serves count now mid part new f
-          → count new.applied.store ≡ history_missed history b.position (place new.applied.store) first_count
+          → count new.applied.store ≡ history_tallied history b.position (place new.applied.store) first_count
       unfed_counts now f own unfed =
           let stands = walked.stands in
           let s = new.applied.store in
@@ -535,14 +535,14 @@ module _ {C : Type 0} (holds : C → Tables → Type 0) (place : C → ℕ) (reo
 
       stopped_counts : (a b' : Option (List ℕ)) (f : FollowFault) → serves new.applied.store
           → StopsPart holds place reopens serves count a b' part mid new f
-          → count new.applied.store ≡ history_missed history b.position (place new.applied.store) first_count
+          → count new.applied.store ≡ history_tallied history b.position (place new.applied.store) first_count
       stopped_counts a b' follow.Read own stops = absurd stops
       stopped_counts a b' follow.Write own stops = untold_counts stops.0 stops.1 stops.2
       stopped_counts a b' (follow.Stream f) own stops = by_part stops.1.1
         where
           by_part : IsUnfed holds place reopens serves count stops.1.0 mid part new f
               ⊎ ((f ≡ fault.Memory) × IsUntold holds place reopens serves count stops.1.0 mid part new [])
-              → count new.applied.store ≡ history_missed history b.position (place new.applied.store) first_count
+              → count new.applied.store ≡ history_tallied history b.position (place new.applied.store) first_count
           by_part (inl unfed) = unfed_counts stops.1.0 f own unfed
           by_part (inr untold) = untold_counts stops.1.0 [] untold.1
 
@@ -560,7 +560,7 @@ module _ {C : Type 0} (holds : C → Tables → Type 0) (place : C → ℕ) (reo
     abbrev first : Subscribed
     first = quiet [] (seen place old tables)
 
-    abbrev counted_first : Misses
+    abbrev counted_first : Tally
     counted_first = count old.applied.store
 
     abbrev at_start : Stands history first refl counted_first [] [] start

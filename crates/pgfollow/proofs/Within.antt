@@ -5,7 +5,7 @@ use Rattle.pgwire.specs.Frames.{Frame, CopyData, CopyDone, frame, frames, IsAllo
 use Rattle.pgwire.specs.Frames.{IsFramingFault, has_copy_done}
 use Rattle.pgwire.specs.declared.fault.WireFault.{WireFault}
 use Rattle.pgwire.proofs.Readings.{one_frame, first_frame, frame_has_no_fault}
-use Rattle.pgapply.specs.declared.misses.Misses.{Misses}
+use Rattle.pgapply.specs.Tallies.{Tally}
 use Rattle.pgsub_core.specs.declared.fault.Fault.{Fault}
 use Rattle.pgsub_core.specs.declared.fault.Fault.TheVariants as fault
 use Rattle.pgsub_core.specs.Subscriber.Subscribed.{Subscribed, progress_of}
@@ -78,7 +78,7 @@ until_within now s new part bytes f have fed =
     }
 
 -- so it is of what is counted
-pub counted_within : (now : ℤ) (s : Subscribed) (part bytes : List ℕ) (position : ℕ) (before behind : Misses) → HaveTaken s part bytes
+pub counted_within : (now : ℤ) (s : Subscribed) (part bytes : List ℕ) (position : ℕ) (before behind : Tally) → HaveTaken s part bytes
     → IsCountedFront now s part position before behind → IsCountedFront now s bytes position before behind
 counted_within now s part bytes position before behind have c =
     let new : Subscribed = record c.state { closed = true } in

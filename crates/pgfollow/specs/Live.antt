@@ -7,7 +7,7 @@ use Rattle.std.specs.List.{AllByRecursion}
 use Rattle.std.specs.Io.KnownBytes.{Appends, Consumes, IsAtEnd}
 use Rattle.pgwire.specs.Statuses.{status_frame}
 use Rattle.pgwire.specs.declared.status.Status.{Status}
-use Rattle.pgapply.specs.declared.misses.Misses.{Misses}
+use Rattle.pgapply.specs.Tallies.{Tally}
 use Rattle.pgapply.specs.Value.{Tables}
 use Rattle.pgsub_core.specs.declared.fault.Fault.{Fault}
 use Rattle.pgsub_core.specs.declared.fault.Fault.TheVariants as fault
@@ -109,9 +109,8 @@ told_in old [] = []
 told_in old (step ∷ steps) = told_of old step ++ told_in step.after steps
 
 module _ {C : Type 0} (holds : C → Tables → Type 0) (place : C → ℕ) (reopens : C → C → Type 0) (serves : C → Type 0)
-    (count : C → Misses) where
-  -- the part was fed and its changes that find no row counted, and this is what a crash may leave
-  -- then
+    (count : C → Tally) where
+  -- the part was fed and its commits are in the tally, and this is what a crash may leave then
   pub record IsFedPart (now : ℤ) (old : SubscriberValue C) (part : List ℕ) (fed : SubscriberValue C) : Type 0 where
     pub feeds : Feeds holds place now old part fed
     pub counts : FeedsCounted holds place count now old part fed

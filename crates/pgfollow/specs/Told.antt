@@ -6,7 +6,7 @@ use Rattle.std.specs.List.{flat_map}
 use Rattle.pgwire.specs.Frames as wire
 use Rattle.pgwire.specs.Statuses.{status_frame}
 use Rattle.pgwire.specs.declared.status.Status.{Status}
-use Rattle.pgapply.specs.declared.misses.Misses.{Misses}
+use Rattle.pgapply.specs.Tallies.{Tally}
 use Rattle.pgapply.specs.Value.{Tables}
 use Rattle.pgsub_core.specs.declared.fault.Fault.{Fault}
 use Rattle.pgsub_core.specs.declared.fault.Fault.TheVariants as fault
@@ -18,7 +18,7 @@ use Rattle.pgsub_core.specs.Subscriber.Confirming.{AreSafeReplies}
 use Rattle.pgsub_core.specs.Machine.Feeding.{waiting, done_frames, IsFedUntil}
 use Rattle.pgsub_core.specs.Subscriber.Subscribed.{Subscribed, IsSafeFor}
 use Rattle.pgsub_core.specs.Subscriber.Crashing.{IsLeftSafely}
-use Rattle.pgsub_core.specs.Subscriber.Missed.{CountsHistory}
+use Rattle.pgsub_core.specs.Subscriber.Tallied.{CountsHistory}
 use Rattle.pgsub_core.specs.Subscriber.SubscriberValue.{SubscriberValue, seen}
 use Rattle.pgfollow.specs.declared.fault.FollowFault.{FollowFault}
 use Rattle.pgfollow.specs.declared.fault.FollowFault.TheVariants as follow
@@ -134,7 +134,7 @@ module _ {C : Type 0} (holds : C → Tables → Type 0) (place : C → ℕ) (reo
 abbrev pub first_status : {C : Type 0} → SubscriberValue C → ℤ → List ℕ
 first_status start now = status_frame (status_at now start)
 
-module _ {C : Type 0} (holds : C → Tables → Type 0) (place : C → ℕ) (reopens : C → C → Type 0) (serves : C → Type 0) (count : C → Misses)
+module _ {C : Type 0} (holds : C → Tables → Type 0) (place : C → ℕ) (reopens : C → C → Type 0) (serves : C → Type 0) (count : C → Tally)
     (unread rest : Option (List ℕ)) (reads : ℕ) (wrote wrote' : Option (List ℕ)) (old new : SubscriberValue C) where
   -- the parts that were followed
   abbrev pub steps_in : (ended : Option FollowFault)
@@ -175,7 +175,7 @@ module _ {C : Type 0} (holds : C → Tables → Type 0) (place : C → ℕ) (reo
   LastIsSafe before (Some follow.Read) e = Unit {0}
   LastIsSafe before (Some (follow.Stream f)) e = Unit {0}
 
-module _ {C : Type 0} (holds : C → Tables → Type 0) (place : C → ℕ) (reopens : C → C → Type 0) (serves : C → Type 0) (count : C → Misses)
+module _ {C : Type 0} (holds : C → Tables → Type 0) (place : C → ℕ) (reopens : C → C → Type 0) (serves : C → Type 0) (count : C → Tally)
     (unread rest : Option (List ℕ)) (reads : ℕ) (wrote wrote' : Option (List ℕ)) (old new : SubscriberValue C) where
   -- The first status isn't told: nothing is read, and the store is as it was.
   abbrev pub NotGreeted : Option FollowFault → Type 0
@@ -184,8 +184,8 @@ module _ {C : Type 0} (holds : C → Tables → Type 0) (place : C → ℕ) (reo
 
   -- The first status is told, that of the opened store. Then parts are fed as they come, and told.
   -- All statuses rise, and what they confirm of a history is stored when they are written, and
-  -- stays so whatever a crash leaves; the store holds the history's rows then. While it serves, it
-  -- has counted at the end what the history misses up to its position.
+  -- stays so whatever a crash leaves; the store holds the history's rows then. While it serves, the
+  -- history's transactions up to its position have come to its tally at the end, one by one.
   abbrev pub FollowsLive : Option FollowFault → Type 0
   FollowsLive ended =
       NotGreeted ended

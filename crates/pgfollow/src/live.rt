@@ -129,12 +129,12 @@ fn follow_part<R: Read + Drop, W: Write + Drop, P: Loads<C> + Drop, C: ReplicaSt
     ensures some { IfOk result (λ n. (n ≤ length piece.now) × (0 < length piece.now → 0 < n)) }
     ensures followed { C.is_honest subscriber.new.applied.store →
         C.serves subscriber.old.applied.store →
-        IfOk result (λ n. IsFollowedPart C.holds C.place C.reopens C.serves C.missed
+        IfOk result (λ n. IsFollowedPart C.holds C.place C.reopens C.serves C.tally
         (W.contents link.old.writer) (W.contents link.new.writer)
         (take n piece.now) subscriber.old subscriber.new) }
     ensures stopped { C.is_honest subscriber.new.applied.store →
         C.serves subscriber.old.applied.store →
-        IfErr result (StopsFront C.holds C.place C.reopens C.serves C.missed
+        IfErr result (StopsFront C.holds C.place C.reopens C.serves C.tally
         (W.contents link.old.writer) (W.contents link.new.writer) piece.now subscriber.old
         subscriber.new) }
     ensures sound { OnOk result (link.new.write_failed ≡ false) }
@@ -182,12 +182,12 @@ fn follow_piece<
         × (link.new.read_failed ≡ link.old.read_failed) × (link.new.reads ≡ link.old.reads) }
     ensures followed { C.is_honest subscriber.new.applied.store →
         C.serves subscriber.old.applied.store →
-        OnOk result (FollowsPiece C.holds C.place C.reopens C.serves C.missed
+        OnOk result (FollowsPiece C.holds C.place C.reopens C.serves C.tally
         (W.contents link.old.writer) (W.contents link.new.writer) piece.now subscriber.old
         subscriber.new) }
     ensures stopped { C.is_honest subscriber.new.applied.store →
         C.serves subscriber.old.applied.store →
-        IfErr result (StopsPiece C.holds C.place C.reopens C.serves C.missed
+        IfErr result (StopsPiece C.holds C.place C.reopens C.serves C.tally
         (W.contents link.old.writer) (W.contents link.new.writer) piece.now subscriber.old
         subscriber.new) }
     ensures sound { OnOk result (link.new.write_failed ≡ false) }
@@ -230,7 +230,7 @@ fn follow_reads<
     ensures own { IfErr result (IsOfFollowingOver P.may_fail) }
     ensures followed { C.is_honest subscriber.new.applied.store →
         C.serves subscriber.old.applied.store →
-        LiveEnds C.holds C.place C.reopens C.serves C.missed (R.remaining link.old.reader)
+        LiveEnds C.holds C.place C.reopens C.serves C.tally (R.remaining link.old.reader)
         (R.remaining link.new.reader) link.new.reads (W.contents link.old.writer)
         (W.contents link.new.writer) subscriber.old subscriber.new (ended_by result) }
     ensures honest { C.is_honest subscriber.new.applied.store →
@@ -270,9 +270,9 @@ fn follow_reads<
 /// history, whatever comes after it. Where sessions are of a history that have all that was taken,
 /// also of the part that stopped it (`parts_have_what_is_taken`), so it is of what is told of that
 /// part, if but a front of it is written, of a crash at the end and, while it serves, of the store;
-/// and then to what that had counted come exactly the changes that find no row of the transactions
-/// between its positions before and after the call. The premises are those of `follow`: nobody else
-/// writes the store's files, and the disk gives back what was written.
+/// and then to its tally come exactly the transactions between its positions before and after the
+/// call, one by one. The premises are those of `follow`: nobody else writes the store's files, and
+/// the disk gives back what was written.
 ///
 /// # Errors
 ///
@@ -301,7 +301,7 @@ pub fn follow_live<
     ensures own { IfErr result (IsOfFollowingOver P.may_fail) }
     ensures followed { C.is_honest subscriber.new.applied.store →
         C.serves subscriber.old.applied.store →
-        FollowsLive C.holds C.place C.reopens C.serves C.missed (R.remaining link.old.reader)
+        FollowsLive C.holds C.place C.reopens C.serves C.tally (R.remaining link.old.reader)
         (R.remaining link.new.reader) link.new.reads (W.contents link.old.writer)
         (W.contents link.new.writer) subscriber.old subscriber.new (ended_by result) }
     ensures honest { C.is_honest subscriber.new.applied.store →

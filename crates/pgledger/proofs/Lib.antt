@@ -1,3 +1,4 @@
 mod Telling
 pub mod Calls
 mod Recording
+mod ToldRows

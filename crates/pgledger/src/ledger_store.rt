@@ -4,7 +4,7 @@ ghost use Rattle.std.specs.Prelude.{◌≡◌, ◌<◌, ◌⊎◌, [], false, tr
 ghost use Rattle.std.specs.Prelude.{IsSome};
 ghost use Rattle.pgapply.specs.Value.{Tables};
 ghost use Rattle.pgapply.specs.Stored.{IsOwnFault};
-ghost use Rattle.pgapply.specs.Missing.{Counts};
+ghost use Rattle.pgapply.specs.Tallies.{Counts};
 ghost use Rattle.pgapply.specs.Taken.{Folds, LeavesStaged, Settles, Stays, RefusesWork};
 ghost use Rattle.pgledger.specs.Images.{images};
 ghost use Rattle.pgledger.specs.Entries.{entry_of, messages_of};
@@ -52,11 +52,12 @@ pub trait LedgerStore: ReplicaStore {
             Stays Self.ReplicaStore.holds self.old self.new }
         ensures position { Self.ReplicaStore.place self.new ≡ Self.ReplicaStore.place self.old }
         ensures counts { Self.ReplicaStore.serves self.new → OnOk result
-            (Counts Self.ReplicaStore.stages self.old commit.now.work.now.changes commit.now.end
-            (Self.ReplicaStore.stages_missed self.old) (Self.ReplicaStore.stages_missed self.new)) }
-        ensures uncounted { OnErr result (Self.ReplicaStore.stages_missed self.new
-            ≡ Self.ReplicaStore.stages_missed self.old) }
-        ensures missed { Self.ReplicaStore.missed self.new ≡ Self.ReplicaStore.missed self.old }
+            (Counts Self.ReplicaStore.stages self.old commit.now.end commit.now.about
+            commit.now.work.now.changes (Self.ReplicaStore.stages_tally self.old)
+            (Self.ReplicaStore.stages_tally self.new)) }
+        ensures uncounted { OnErr result (Self.ReplicaStore.stages_tally self.new
+            ≡ Self.ReplicaStore.stages_tally self.old) }
+        ensures tally { Self.ReplicaStore.tally self.new ≡ Self.ReplicaStore.tally self.old }
         ensures served { Self.ReplicaStore.serves self.new → Self.ReplicaStore.serves self.old }
         ensures open { Self.ReplicaStore.is_honest self.new →
             OnOk result (Self.ReplicaStore.serves self.new) }
@@ -108,11 +109,11 @@ pub trait LedgerStore: ReplicaStore {
             Stays Self.ReplicaStore.holds self.old self.new }
         ensures position { Self.ReplicaStore.place self.new ≡ Self.ReplicaStore.place self.old }
         ensures counts { Self.ReplicaStore.serves self.new → P.is_honest parts.new →
-            OnOk result (Counts Self.ReplicaStore.stages self.old (P.left parts.old) end
-            (Self.ReplicaStore.stages_missed self.old) (Self.ReplicaStore.stages_missed self.new)) }
-        ensures uncounted { OnErr result (Self.ReplicaStore.stages_missed self.new
-            ≡ Self.ReplicaStore.stages_missed self.old) }
-        ensures missed { Self.ReplicaStore.missed self.new ≡ Self.ReplicaStore.missed self.old }
+            OnOk result (Counts Self.ReplicaStore.stages self.old end about (P.left parts.old)
+            (Self.ReplicaStore.stages_tally self.old) (Self.ReplicaStore.stages_tally self.new)) }
+        ensures uncounted { OnErr result (Self.ReplicaStore.stages_tally self.new
+            ≡ Self.ReplicaStore.stages_tally self.old) }
+        ensures tally { Self.ReplicaStore.tally self.new ≡ Self.ReplicaStore.tally self.old }
         ensures leads { P.leads parts.old parts.new }
         ensures served { Self.ReplicaStore.serves self.new → Self.ReplicaStore.serves self.old }
         ensures open { Self.ReplicaStore.is_honest self.new →
@@ -156,10 +157,10 @@ pub trait LedgerStore: ReplicaStore {
             self.new ≡ self.old }
         ensures fault { IfErr result IsOwnFault }
         ensures none { Self.ReplicaStore.reach self.new ≡ Self.ReplicaStore.place self.new }
-        ensures counts { OnOk result (Self.ReplicaStore.missed self.new
-            ≡ Self.ReplicaStore.stages_missed self.old) }
+        ensures counts { OnOk result (Self.ReplicaStore.tally self.new
+            ≡ Self.ReplicaStore.stages_tally self.old) }
         ensures uncounted { OnErr result
-            (Self.ReplicaStore.missed self.new ≡ Self.ReplicaStore.missed self.old) }
+            (Self.ReplicaStore.tally self.new ≡ Self.ReplicaStore.tally self.old) }
         ensures served { Self.ReplicaStore.serves self.new → Self.ReplicaStore.serves self.old }
         ensures open { Self.ReplicaStore.is_honest self.new →
             Self.ReplicaStore.place self.old < Self.ReplicaStore.reach self.old →

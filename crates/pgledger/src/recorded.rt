@@ -2,12 +2,12 @@
 
 ghost use Rattle.std.specs.Prelude.{◌≡◌, ◌<◌, [], true, false, Some, IsSome, OnOk, OnErr, IfErr};
 ghost use Rattle.pgapply.specs.Value.{Tables};
-ghost use Rattle.pgapply.specs.Missing.{Counts};
+ghost use Rattle.pgapply.specs.Tallies.{Counts, nothing_taken};
 ghost use Rattle.pgapply.specs.Taken.{Folds, HearsOnly, RefusesWork, Stays};
 ghost use Rattle.pgledger.specs.Images.{images};
 ghost use Rattle.pgledger.specs.Entries.{entry_of, messages_of};
 ghost use Rattle.pgledger.specs.Ledgers.{Appends, Hears, Keeps, Rests};
-ghost use Rattle.pgledger.specs.Records.{Plans, Records};
+ghost use Rattle.pgledger.specs.Records.{Plans, Records, RecordsSince, tally_since};
 
 use crate::ledger::{Ledger, Supposing};
 use crate::ledger_store::LedgerStore;
@@ -19,14 +19,17 @@ use pglsn::Lsn;
 /// A store with a ledger of its commits. It holds what the store holds; and where that is so which
 /// is supposed of the ledger, the entries of that lead there commit by commit, from some tables
 /// where it begins, with nothing after them but commits that are staged, or that were when the
-/// ledger got stuck. A crash keeps that where both are opened again: first the store, and then the
-/// ledger at its position.
+/// ledger got stuck. Those since the two were put together tell the commits that the store took
+/// since then, one by one. A crash keeps that where both are opened again: first the store, and
+/// then the ledger at its position.
 ///
 /// Once the ledger is stuck, each commit is rejected.
 #[derive(Drop)]
 pub struct Recorded<S: LedgerStore + Drop, L: Ledger + Supposing + Drop> {
     store: S,
     ledger: L,
+    // The position at which the two were put together.
+    from: Lsn,
 }
 
 impl<S: LedgerStore + Drop, L: Ledger + Supposing + Drop> Recorded<S, L> {
@@ -34,12 +37,24 @@ impl<S: LedgerStore + Drop, L: Ledger + Supposing + Drop> Recorded<S, L> {
     pub fn new(store: S, ledger: L) -> Recorded<S, L>
         ensures store { result.store ≡ store }
         ensures ledger { result.ledger ≡ ledger }
+        ensures from { result.from ≡ S.place store }
         ensures begun { L.keeps ledger [] → L.begins ledger ≡ S.place store →
             L.outlasts ledger (S.place store) → (tables : Tables) → S.holds store tables →
             Records L.begins L.keeps L.outlasts L.is_stuck result.ledger tables
             (S.place result.store) (S.reach result.store) }
+        ensures since { S.tally store ≡ nothing_taken → (tables : Tables) →
+            Records L.begins L.keeps L.outlasts L.is_stuck ledger tables (S.place store)
+            (S.reach store) →
+            RecordsSince L.begins L.keeps L.outlasts L.is_stuck result.ledger result.from
+            (S.tally result.store).commits tables (S.place result.store)
+            (S.reach result.store) }
     {
-        Recorded { store, ledger }
+        let from = store.position();
+        Recorded {
+            store,
+            ledger,
+            from,
+        }
     }
 
     /// The ledger.
@@ -61,6 +76,7 @@ impl<S: LedgerStore + Drop, L: Ledger + Supposing + Drop> Recorded<S, L> {
     /// ledger has them.
     fn leave_staged(&mut self)
         ensures store { self.new.store ≡ self.old.store }
+        ensures from { self.new.from ≡ self.old.from }
         ensures kept { Keeps L.keeps self.old.ledger self.new.ledger }
         ensures heard { L.heard self.new.ledger ≡ L.heard self.old.ledger }
         ensures free { L.is_stuck self.new.ledger ≡ false →
@@ -81,22 +97,23 @@ impl<S: LedgerStore + Drop, L: Ledger + Supposing + Drop> ReplicaStore for Recor
     ghost is_honest = { λ s. S.is_honest s.store };
 
     ghost holds = { λ s tables. S.holds s.store tables × (L.supposed →
-        Records L.begins L.keeps L.outlasts L.is_stuck s.ledger tables (S.place s.store)
-        (S.reach s.store)) };
+        RecordsSince L.begins L.keeps L.outlasts L.is_stuck s.ledger s.from
+        (S.tally s.store).commits tables (S.place s.store) (S.reach s.store)) };
 
     ghost place = { λ s. S.place s.store };
 
     ghost stages = { λ s tables. S.stages s.store tables × (L.supposed →
-        Plans L.begins L.keeps L.outlasts L.is_stuck s.ledger tables (S.place s.store)
-        (S.reach s.store)) };
+        Plans L.begins L.keeps L.outlasts L.is_stuck s.ledger s.from (S.tally s.store).commits
+        (S.stages_tally s.store).commits tables (S.place s.store) (S.reach s.store)) };
 
     ghost reach = { λ s. S.reach s.store };
 
-    ghost missed = { λ s. S.missed s.store };
+    ghost tally = { λ s. tally_since s.from (S.tally s.store) };
 
-    ghost stages_missed = { λ s. S.stages_missed s.store };
+    ghost stages_tally = { λ s. tally_since s.from (S.stages_tally s.store) };
 
     ghost reopens = { λ s other. S.reopens s.store other.store
+        × (S.tally other.store ≡ nothing_taken) × (other.from ≡ S.place other.store)
         × (L.supposed → L.reopens s.ledger (S.place other.store) other.ledger) };
 
     fn position(&self) -> Lsn {
@@ -139,12 +156,15 @@ impl<S: LedgerStore + Drop, L: Ledger + Supposing + Drop> ReplicaStore for Recor
             Stays ⟦<Recorded<S, L> as ReplicaStore>⟧.holds self.old self.new }
         ensures position { S.place self.new.store ≡ S.place self.old.store }
         ensures counts { S.serves self.new.store → OnOk result
-            (Counts ⟦<Recorded<S, L> as ReplicaStore>⟧.stages self.old
-            commit.now.work.now.changes commit.now.end (S.stages_missed self.old.store)
-            (S.stages_missed self.new.store)) }
-        ensures uncounted { OnErr result
-            (S.stages_missed self.new.store ≡ S.stages_missed self.old.store) }
-        ensures missed { S.missed self.new.store ≡ S.missed self.old.store }
+            (Counts ⟦<Recorded<S, L> as ReplicaStore>⟧.stages self.old commit.now.end
+            commit.now.about commit.now.work.now.changes
+            (tally_since self.old.from (S.stages_tally self.old.store))
+            (tally_since self.new.from (S.stages_tally self.new.store))) }
+        ensures uncounted { OnErr result (tally_since self.new.from
+            (S.stages_tally self.new.store)
+            ≡ tally_since self.old.from (S.stages_tally self.old.store)) }
+        ensures tally { tally_since self.new.from (S.tally self.new.store)
+            ≡ tally_since self.old.from (S.tally self.old.store) }
         ensures served { S.serves self.new.store → S.serves self.old.store }
         ensures open { S.is_honest self.new.store → OnOk result (S.serves self.new.store) }
         ensures honest { S.is_honest self.new.store → S.is_honest self.old.store }
@@ -202,12 +222,14 @@ impl<S: LedgerStore + Drop, L: Ledger + Supposing + Drop> ReplicaStore for Recor
             Stays ⟦<Recorded<S, L> as ReplicaStore>⟧.holds self.old self.new }
         ensures position { S.place self.new.store ≡ S.place self.old.store }
         ensures counts { S.serves self.new.store → P.is_honest parts.new → OnOk result
-            (Counts ⟦<Recorded<S, L> as ReplicaStore>⟧.stages self.old
-            (P.left parts.old) end (S.stages_missed self.old.store)
-            (S.stages_missed self.new.store)) }
-        ensures uncounted { OnErr result
-            (S.stages_missed self.new.store ≡ S.stages_missed self.old.store) }
-        ensures missed { S.missed self.new.store ≡ S.missed self.old.store }
+            (Counts ⟦<Recorded<S, L> as ReplicaStore>⟧.stages self.old end about
+            (P.left parts.old) (tally_since self.old.from (S.stages_tally self.old.store))
+            (tally_since self.new.from (S.stages_tally self.new.store))) }
+        ensures uncounted { OnErr result (tally_since self.new.from
+            (S.stages_tally self.new.store)
+            ≡ tally_since self.old.from (S.stages_tally self.old.store)) }
+        ensures tally { tally_since self.new.from (S.tally self.new.store)
+            ≡ tally_since self.old.from (S.tally self.old.store) }
         ensures leads { P.leads parts.old parts.new }
         ensures served { S.serves self.new.store → S.serves self.old.store }
         ensures open { S.is_honest self.new.store → OnOk result (S.serves self.new.store) }
@@ -232,8 +254,8 @@ impl<S: LedgerStore + Drop, L: Ledger + Supposing + Drop> ReplicaStore for Recor
         ensures hears { HearsOnly ⟦<Recorded<S, L> as ReplicaStore>⟧.serves
             ⟦<Recorded<S, L> as ReplicaStore>⟧.is_honest ⟦<Recorded<S, L> as ReplicaStore>⟧.holds
             ⟦<Recorded<S, L> as ReplicaStore>⟧.stages ⟦<Recorded<S, L> as ReplicaStore>⟧.place
-            ⟦<Recorded<S, L> as ReplicaStore>⟧.reach ⟦<Recorded<S, L> as ReplicaStore>⟧.missed
-            ⟦<Recorded<S, L> as ReplicaStore>⟧.stages_missed
+            ⟦<Recorded<S, L> as ReplicaStore>⟧.reach ⟦<Recorded<S, L> as ReplicaStore>⟧.tally
+            ⟦<Recorded<S, L> as ReplicaStore>⟧.stages_tally
             ⟦<Recorded<S, L> as ReplicaStore>⟧.reopens self.old self.new }
     {
         self.ledger.hear(message);
@@ -245,8 +267,8 @@ impl<S: LedgerStore + Drop, L: Ledger + Supposing + Drop> ReplicaStore for Recor
         ensures forgets { HearsOnly ⟦<Recorded<S, L> as ReplicaStore>⟧.serves
             ⟦<Recorded<S, L> as ReplicaStore>⟧.is_honest ⟦<Recorded<S, L> as ReplicaStore>⟧.holds
             ⟦<Recorded<S, L> as ReplicaStore>⟧.stages ⟦<Recorded<S, L> as ReplicaStore>⟧.place
-            ⟦<Recorded<S, L> as ReplicaStore>⟧.reach ⟦<Recorded<S, L> as ReplicaStore>⟧.missed
-            ⟦<Recorded<S, L> as ReplicaStore>⟧.stages_missed
+            ⟦<Recorded<S, L> as ReplicaStore>⟧.reach ⟦<Recorded<S, L> as ReplicaStore>⟧.tally
+            ⟦<Recorded<S, L> as ReplicaStore>⟧.stages_tally
             ⟦<Recorded<S, L> as ReplicaStore>⟧.reopens self.old self.new }
     {
         self.ledger.forget();

@@ -1,6 +1,6 @@
 -- Worked rows: a load of two tables with three rows.
 -- PostgreSQL documentation, COPY, File Formats, Text Format.
-use Rattle.std.proofs.Common.{◌≡◌, ◌∷◌, ◌++◌, [], ℕ, List, true, false, refl, negsuc, take}
+use Rattle.std.proofs.Common.{◌≡◌, ◌∷◌, ◌++◌, [], ℕ, List, true, false, refl, negsuc, pos, take}
 use Rattle.std.specs.Str.{is_utf8, chars}
 use Rattle.pgtuple.specs.declared.cell.Cell.{Cell}
 use Rattle.pgtuple.specs.declared.cell.Cell.TheVariants.{Null, Text}
@@ -60,6 +60,7 @@ transaction : load_transaction 8 tables 1000 ≡ record {
       (Changed (item.Insert 16385 row_3) (u ∷ []) Nothing));
   lsn = 999;
   end = 1000;
+  time = pos 0;
 }
 unfolding reading row_of cells_of cell_of value_behind sequence_at is_utf8 chars lib.Utf8.encode
 transaction = refl

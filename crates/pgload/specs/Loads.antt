@@ -3,7 +3,7 @@
 -- snapshot that a slot exports; and the transaction that it is in a history.
 -- PostgreSQL documentation, COPY, File Formats, Text Format; Logical Decoding Concepts, Exported
 -- Snapshots.
-use Rattle.std.specs.Prelude.{◌≡◌, ◌-◌, ℕ, List, [], ◌∷◌, map, length}
+use Rattle.std.specs.Prelude.{◌≡◌, ◌-◌, ℕ, ℤ, pos, List, [], ◌∷◌, map, length}
 use Rattle.std.specs.List.{flat_map}
 use Rattle.pgtuple.specs.declared.cell.Cell.{Cell}
 use Rattle.pglogical.specs.declared.message.RelationDef.{RelationDef}
@@ -60,8 +60,12 @@ load_work max_line (table ∷ tables) = inserted table.definition (rows_of max_l
 abbrev pub load_xid : ℕ
 load_xid = 2
 
+-- no message of it comes that would tell when it was committed
+abbrev pub load_time : ℤ
+load_time = pos 0
+
 -- The one transaction, which ends at the slot's consistent point: the end of a record that is no
 -- commit.
 abbrev pub load_transaction : ℕ → List TableText → ℕ → Transaction
 load_transaction max_line tables point =
-    record { xid = load_xid; work = load_work max_line tables; lsn = point - 1; end = point }
+    record { xid = load_xid; work = load_work max_line tables; lsn = point - 1; end = point; time = load_time }

@@ -1,6 +1,7 @@
 mod Recovered
 mod Life
 mod FedLife
+mod Entries
 mod StoredOnce
 mod LifeSessions
 mod LifeEntries

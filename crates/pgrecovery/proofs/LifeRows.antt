@@ -22,7 +22,7 @@ use Rattle.pgorder.specs.Steps.{initial_order}
 use Rattle.pgapply.specs.declared.fault.StoreFault.{StoreFault}
 use Rattle.pgapply.specs.Stored.{Stored}
 use Rattle.pgapply.specs.Value.{Tables}
-use Rattle.pgapply.specs.Missing.{nothing_missed}
+use Rattle.pgapply.specs.Tallies.{nothing_taken}
 use Rattle.pgfeed.specs.Beside.{LeadsFrom, RecordsRest}
 use Rattle.pgfeed.specs.Hearing.{all_heard}
 use Rattle.pgfeed.proofs.Beside.{goes_on}
@@ -84,9 +84,10 @@ one rows feed position reach confirmed received relations closed copy_done = rec
       store = record {
         rows = rows;
         position = position;
-        group = record { reach = reach; is_lost = false; missed = nothing_missed; stages_missed = nothing_missed };
+        group = record { reach = reach; is_lost = false; tally = nothing_taken; stages_tally = nothing_taken };
       };
       ledger = feed;
+      from = position;
     };
     confirmed = confirmed;
     received = received;

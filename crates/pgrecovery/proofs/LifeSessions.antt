@@ -34,19 +34,19 @@ use Rattle.pgsub_core.proofs.Samples.{row_of, t, text, update_t}
 
 -- (1, a) and (2, b) are inserted, (1, a) becomes (1, c), (2, b) goes, and (3, d) is inserted
 abbrev pub tx_10 : Transaction
-tx_10 = record { xid = 10; work = Changed (insert_t 49 97) (t ∷ []) Nothing; lsn = 256; end = 304 }
+tx_10 = record { xid = 10; work = Changed (insert_t 49 97) (t ∷ []) Nothing; lsn = 256; end = 304; time = pos 0 }
 
 abbrev pub tx_11 : Transaction
-tx_11 = record { xid = 11; work = Changed (insert_t 50 98) (t ∷ []) Nothing; lsn = 400; end = 448 }
+tx_11 = record { xid = 11; work = Changed (insert_t 50 98) (t ∷ []) Nothing; lsn = 400; end = 448; time = pos 0 }
 
 abbrev pub tx_12 : Transaction
-tx_12 = record { xid = 12; work = Changed (update_t 49 99) (t ∷ []) Nothing; lsn = 512; end = 560 }
+tx_12 = record { xid = 12; work = Changed (update_t 49 99) (t ∷ []) Nothing; lsn = 512; end = 560; time = pos 0 }
 
 abbrev pub tx_13 : Transaction
-tx_13 = record { xid = 13; work = Changed (delete_t 50) (t ∷ []) Nothing; lsn = 624; end = 672 }
+tx_13 = record { xid = 13; work = Changed (delete_t 50) (t ∷ []) Nothing; lsn = 624; end = 672; time = pos 0 }
 
 abbrev pub tx_14 : Transaction
-tx_14 = record { xid = 14; work = Changed (insert_t 51 100) (t ∷ []) Nothing; lsn = 768; end = 816 }
+tx_14 = record { xid = 14; work = Changed (insert_t 51 100) (t ∷ []) Nothing; lsn = 768; end = 816; time = pos 0 }
 
 abbrev pub history : List Transaction
 history = tx_10 ∷ tx_11 ∷ tx_12 ∷ tx_13 ∷ tx_14 ∷ []
@@ -239,7 +239,7 @@ delivers_1 = record {
     item.Relation t ∷ insert_t 49 97 ∷ [],
     refl,
     tt,
-    (refl, refl, refl, refl),
+    (refl, refl, refl, refl, refl),
     refl,
     (
       [],
@@ -248,9 +248,9 @@ delivers_1 = record {
       insert_t 50 98 ∷ [],
       refl,
       tt,
-      (refl, refl, refl, refl),
+      (refl, refl, refl, refl, refl),
       refl,
-      ([], _, _, update_t 49 99 ∷ [], refl, tt, (refl, refl, refl, refl), refl, tt),
+      ([], _, _, update_t 49 99 ∷ [], refl, tt, (refl, refl, refl, refl, refl), refl, tt),
     ),
   );
 }
@@ -275,7 +275,7 @@ delivers_2 = record {
     item.Relation t ∷ insert_t 49 97 ∷ [],
     refl,
     tt,
-    (refl, refl, refl, refl),
+    (refl, refl, refl, refl, refl),
     refl,
     (
       [],
@@ -284,7 +284,7 @@ delivers_2 = record {
       insert_t 50 98 ∷ [],
       refl,
       tt,
-      (refl, refl, refl, refl),
+      (refl, refl, refl, refl, refl),
       refl,
       (
         [],
@@ -293,9 +293,9 @@ delivers_2 = record {
         update_t 49 99 ∷ [],
         refl,
         tt,
-        (refl, refl, refl, refl),
+        (refl, refl, refl, refl, refl),
         refl,
-        ([], _, _, delete_t 50 ∷ [], refl, tt, (refl, refl, refl, refl), refl, (((λ _. omega arith), tt), tt)),
+        ([], _, _, delete_t 50 ∷ [], refl, tt, (refl, refl, refl, refl, refl), refl, (((λ _. omega arith), tt), tt)),
       ),
     ),
   );
@@ -310,7 +310,7 @@ delivers_3 = record {
     follow = (((tt, (tt, tt)), simp open_rows), tt);
     front = refl;
   };
-  commits = ([], _, _, item.Relation t ∷ insert_t 51 100 ∷ [], refl, tt, (refl, refl, refl, refl), refl, tt);
+  commits = ([], _, _, item.Relation t ∷ insert_t 51 100 ∷ [], refl, tt, (refl, refl, refl, refl, refl), refl, tt);
 }
 
 -- ---- they fit the wire

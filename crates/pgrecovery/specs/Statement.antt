@@ -99,6 +99,7 @@ pub use Rattle.pgrows.specs.Rows.{database, shown_mark, saved_in, AreBelow, AreL
 pub use Rattle.pgrows.specs.Rows.{IsBehind, GoesOn, state}
 pub use Rattle.pgstore.specs.StoreValue.{AreOf, Group, StoreValue, Holds, IsHonest, Serves}
 pub use Rattle.pgstore.specs.StoreValue.{IsPlaceOf, IsValueOf, nothing_stored}
+pub use Rattle.pgapply.specs.Tallies.{TakenCommit, Tally}
 pub use Rattle.pgstore.specs.Acts.{committed_of}
 pub use Rattle.pgstore.specs.Reopened.{IsCopiedTo, CrashLeaves, IsEmptyContent, HoldsContent}
 pub use Rattle.pgstore.specs.Reopened.{Reopens}

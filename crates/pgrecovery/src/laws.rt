@@ -2,11 +2,12 @@
 
 ghost use Rattle.pgrecovery.specs.Recovered.{FollowedIsRecovered, LeftSafelyIsRecovered};
 ghost use Rattle.pgrecovery.specs.Recovered.{ServedIsRecovered};
+ghost use Rattle.pgrecovery.specs.Entries.{EntriesAreTransactions};
 ghost use Rattle.pgrecovery.specs.FedLife.{OneFedLife};
 ghost use Rattle.pgrecovery.specs.Life.{OneLife};
 
 use pgfeed::Folder;
-use pgledger::Supposing;
+use pgledger::{Ledger, Supposing};
 use sqlite::Alter;
 use sqlite_disk::Disk;
 
@@ -55,4 +56,17 @@ pub fn one_life_holds_one_history<D: Disk>()
 pub fn one_fed_life_holds_one_history<D: Disk, F: Folder + Supposing + Drop>()
     ensures life { OneFedLife D.Disk F.File.seen F.File.may_leave F.File.is_clean F.is_true
         F.places F.has F.supposed }
+{}
+
+/// The entries that a ledger gets in a run are the history's transactions. Let a store that had
+/// taken nothing be followed with a ledger beside it (`pgledger::Recorded`), as `pgruns::follow`
+/// does with a feed, and let what came be sessions of a history. Then of the entries that the
+/// ledger keeps those behind the position at which the run began, up to the one where the store is,
+/// are the history's transactions that change rows, one by one, each with its end LSN, its final
+/// LSN, its xid and time, and with the images of its surviving changes. Entries of commits without
+/// changes may stand between them.
+///
+/// PostgreSQL documentation, Logical Replication Message Formats, Begin, Commit and Stream Commit.
+pub fn entries_are_transactions<L: Ledger>()
+    ensures told { EntriesAreTransactions L.begins L.keeps L.outlasts L.is_stuck }
 {}

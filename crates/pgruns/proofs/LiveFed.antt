@@ -11,10 +11,10 @@ use Rattle.pgorder.specs.Steps.{InPair, OrderState}
 use Rattle.pgorder.specs.OpenXids.{none_open}
 use Rattle.pgspool.specs.Labels.{LabelledItem}
 use Rattle.pgwire.specs.Frames as wire
-use Rattle.pgapply.specs.declared.misses.Misses.{Misses}
 use Rattle.pgapply.specs.Value.{Rows, Tables}
 use Rattle.pgapply.specs.Apply.{Change, apply, fold_changes, rows_after}
 use Rattle.pgapply.specs.Missing.{all_missing, nothing_missed}
+use Rattle.pgapply.specs.Tallies.{TakenCommit, Tally, nothing_taken}
 use Rattle.pgapply.specs.declared.op.Op.TheVariants as op
 use Rattle.pgsub_core.specs.Server.History.{tables_as_of}
 use Rattle.pgsub_core.specs.Server.Described.{described_from}
@@ -28,7 +28,7 @@ use Rattle.pgruns.proofs.LiveFrames.{insert, keepalive, relation, short, update,
 use Rattle.pgruns.proofs.LiveFrames.{begin_11_read, commit_10_read, commit_11_read, delete_read}
 use Rattle.pgruns.proofs.LiveFrames.{insert_read, keepalive_read, relation_read, update_read}
 use Rattle.pgruns.proofs.LiveTakes.{takes_none, takes_more, takes_begin, takes_item, takes_commit}
-use Rattle.pgruns.proofs.LiveTakes.{takes_repeat, takes_keepalive}
+use Rattle.pgruns.proofs.LiveTakes.{takes_repeat, takes_keepalive, told}
 use Rattle.pgruns.proofs.LiveParts.{FeedsPart}
 use Rattle.pgruns.proofs.LiveSessions.{history, session_1, session_2}
 
@@ -73,9 +73,23 @@ last_rows = map.insert (map.remove first_rows (place 49)) (place 49) (row_of 49 
 abbrev pub last_tables : Tables
 last_tables = put_t (put_t first_tables last_rows) last_rows
 
+-- ---- the tally
+
+abbrev taken_10 : TakenCommit
+taken_10 = record { end = 560; about = Some (told 512 10); changes = changes_10 }
+
+abbrev taken_11 : TakenCommit
+taken_11 = record { end = 816; about = Some (told 768 11); changes = changes_11 }
+
+abbrev pub tally_10 : Tally
+tally_10 = record { misses = nothing_missed; commits = taken_10 ∷ [] }
+
 -- the deletion of xid 11 finds no row
-abbrev pub missed : Misses
-missed = record { count = 1; first = Some (record { end = 816; oid = 16384 }) }
+abbrev pub tally_11 : Tally
+tally_11 = record {
+  misses = record { count = 1; first = Some (record { end = 816; oid = 16384 }) };
+  commits = taken_10 ∷ taken_11 ∷ [];
+}
 
 folds_10 : fold_changes map.empty changes_10 ≡ Ok first_tables
 unfolding fold_changes apply rows_after
@@ -184,7 +198,7 @@ fed_7 = record fed_6 { confirmed = 896; received = 896; partial = []; replies = 
 some_partial : wire.IsPartial 16777216 (100 ∷ 0 ∷ [])
 some_partial = record { tag = λ _. inl refl; payload = λ h. absurd (omega (arith, h)) }
 
-pub feeds_1 : FeedsPart nothing_missed nothing_missed opened fed_1 bytes_1
+pub feeds_1 : FeedsPart nothing_taken nothing_taken opened fed_1 bytes_1
 feeds_1 = record {
   fs = wire.CopyData begin_10 ∷ [];
   rest = take 30 (framed 69 relation);
@@ -200,7 +214,7 @@ feeds_1 = record {
   unclosed = refl;
 }
 
-pub feeds_2 : FeedsPart nothing_missed nothing_missed fed_1 fed_2 bytes_2
+pub feeds_2 : FeedsPart nothing_taken nothing_taken fed_1 fed_2 bytes_2
 unfolding item_spelling tuple_spelling
 feeds_2 = record {
   fs = wire.CopyData relation ∷ wire.CopyData insert ∷ [];
@@ -217,7 +231,7 @@ feeds_2 = record {
   unclosed = refl;
 }
 
-pub feeds_3 : FeedsPart nothing_missed nothing_missed fed_2 fed_3 bytes_3
+pub feeds_3 : FeedsPart nothing_taken tally_10 fed_2 fed_3 bytes_3
 feeds_3 = record {
   fs = wire.CopyData commit_10 ∷ [];
   rest = 99 ∷ 0 ∷ [];
@@ -233,7 +247,7 @@ feeds_3 = record {
   unclosed = refl;
 }
 
-pub feeds_4 : FeedsPart nothing_missed nothing_missed fed_3 fed_4 bytes_4
+pub feeds_4 : FeedsPart tally_10 tally_10 fed_3 fed_4 bytes_4
 feeds_4 = record {
   fs = wire.CopyDone ∷ [];
   rest = [];
@@ -249,7 +263,7 @@ feeds_4 = record {
   unclosed = refl;
 }
 
-pub feeds_5 : FeedsPart nothing_missed nothing_missed reconnected fed_5 bytes_5
+pub feeds_5 : FeedsPart tally_10 tally_10 reconnected fed_5 bytes_5
 unfolding item_spelling tuple_spelling
 feeds_5 = record {
   fs = wire.CopyData begin_10 ∷ wire.CopyData relation ∷ wire.CopyData insert ∷ wire.CopyData commit_10 ∷ wire.CopyData begin_11 ∷ [];
@@ -285,7 +299,7 @@ feeds_5 = record {
 described_11 : described_from (λ oid. map.get known oid) (update_t 49 98 ∷ delete_t 51 ∷ []) ≡ Ok changes_11
 described_11 = simp lookups
 
-pub feeds_6 : FeedsPart nothing_missed missed fed_5 fed_6 bytes_6
+pub feeds_6 : FeedsPart tally_10 tally_11 fed_5 fed_6 bytes_6
 unfolding item_spelling tuple_spelling
 feeds_6 = record {
   fs = wire.CopyData update ∷ wire.CopyData delete ∷ wire.CopyData commit_11 ∷ [];
@@ -304,7 +318,7 @@ feeds_6 = record {
   unclosed = refl;
 }
 
-pub feeds_7 : FeedsPart missed missed fed_6 fed_7 bytes_7
+pub feeds_7 : FeedsPart tally_11 tally_11 fed_6 fed_7 bytes_7
 feeds_7 = record {
   fs = wire.CopyData keepalive ∷ [];
   rest = [];

@@ -2,7 +2,7 @@
 use Rattle.std.proofs.Common.{◌≡◌, ◌++◌, List, ℕ, Bool, true, false, Some, refl, arith, ap, sym}
 use Rattle.std.proofs.Common.{subst, inr, None}
 use Rattle.pgwire.specs.Frames as wire
-use Rattle.pgapply.specs.declared.misses.Misses.{Misses}
+use Rattle.pgapply.specs.Tallies.{Tally}
 use Rattle.pgapply.specs.Value.{Tables}
 use Rattle.pgsub_core.specs.Machine.Counted.{IsCountedWhole}
 use Rattle.pgsub_core.specs.Machine.Feeding.{waiting, done_frames, IsFed, IsFedWhole, IsFedUntil}
@@ -13,12 +13,12 @@ use Rattle.pgsub_core.proofs.OneOutcome.{piece_one}
 use Rattle.pgfollow.specs.Live.{IsFedPart, IsStep, Step, settled}
 use Rattle.pgruns.proofs.LiveTakes.{Take, now}
 
--- ---- the store: its tables, its position, and the changes that found no row
+-- ---- the store: its tables, its position, and its tally
 
 pub record Store : Type 0 where
   pub tables : Tables
   pub position : ℕ
-  pub misses : Misses
+  pub tally : Tally
 
 abbrev pub One : Type 0
 One = SubscriberValue Store
@@ -36,14 +36,14 @@ reopens store other = other ≡ store
 abbrev pub serves : Store → Type 0
 serves store = Unit {0}
 
-abbrev pub count : Store → Misses
-count store = store.misses
+abbrev pub count : Store → Tally
+count store = store.tally
 
 -- a subscriber over such a store
-abbrev pub over : Misses → Subscribed → One
-over misses s = record {
+abbrev pub over : Tally → Subscribed → One
+over tally s = record {
   applied = record {
-    store = record { tables = s.tables; position = s.position; misses = misses };
+    store = record { tables = s.tables; position = s.position; tally = tally };
     confirmed = s.confirmed;
     received = s.received;
     version = s.version;
@@ -60,7 +60,7 @@ over misses s = record {
 
 -- The frames that the part completes are taken and counted, and less than one frame is left, with
 -- which the subscriber is this.
-pub record FeedsPart (m m' : Misses) (old new : Subscribed) (part : List ℕ) : Type 0 where
+pub record FeedsPart (m m' : Tally) (old new : Subscribed) (part : List ℕ) : Type 0 where
   pub fs : List wire.Frame
   pub rest : List ℕ
   pub state : Subscribed
@@ -69,7 +69,7 @@ pub record FeedsPart (m m' : Misses) (old new : Subscribed) (part : List ℕ) : 
   pub left : new ≡ record state { partial = rest }
   pub unclosed : old.closed ≡ false
 
-module _ {m m' : Misses} {old new : Subscribed} {part : List ℕ} (fed : FeedsPart m m' old new part) where
+module _ {m m' : Tally} {old new : Subscribed} {part : List ℕ} (fed : FeedsPart m m' old new part) where
   whole : IsFedWhole now old part new
   whole = record { fs = fed.fs; rest = fed.rest; state = fed.state; deframed = fed.deframed; takes = fed.take.takes; left = fed.left }
 
@@ -134,10 +134,10 @@ module _ {m m' : Misses} {old new : Subscribed} {part : List ℕ} (fed : FeedsPa
         );
   }
 
--- one part: its bytes, what the store has counted then, and all else that the subscriber is
+-- one part: its bytes, the store's tally then, and all else that the subscriber is
 pub record Part : Type 0 where
   pub bytes : List ℕ
-  pub misses : Misses
+  pub tally : Tally
   pub fed : Subscribed
 
 abbrev pub step_of : Part → Step Store
@@ -145,24 +145,24 @@ step_of p = record {
   now = now;
   part = p.bytes;
   ends = p.fed.copy_done;
-  fed = over p.misses p.fed;
-  after = over p.misses (settled p.fed.copy_done p.fed);
+  fed = over p.tally p.fed;
+  after = over p.tally (settled p.fed.copy_done p.fed);
 }
 
-settled_over : (b : Bool) (m : Misses) (s : Subscribed) (tables : Tables)
+settled_over : (b : Bool) (m : Tally) (s : Subscribed) (tables : Tables)
     → seen stands (over m (settled b s)) tables ≡ settled b (seen stands (over m s) tables)
 settled_over false m s tables = refl
 settled_over true m s tables = refl
 
-same_store : (b : Bool) (m : Misses) (s : Subscribed) → (over m (settled b s)).applied.store ≡ (over m s).applied.store
+same_store : (b : Bool) (m : Tally) (s : Subscribed) → (over m (settled b s)).applied.store ≡ (over m s).applied.store
 same_store false m s = refl
 same_store true m s = refl
 
-pub is_step : {m : Misses} {old : Subscribed} (p : Part) → FeedsPart m p.misses old p.fed p.bytes
+pub is_step : {m : Tally} {old : Subscribed} (p : Part) → FeedsPart m p.tally old p.fed p.bytes
     → IsStep holds stands reopens serves count (over m old) (step_of p)
 is_step p fed = record {
   is_fed = fed_part fed;
   ends = refl;
-  store = same_store p.fed.copy_done p.misses p.fed;
-  state = settled_over p.fed.copy_done p.misses p.fed;
+  store = same_store p.fed.copy_done p.tally p.fed;
+  state = settled_over p.fed.copy_done p.tally p.fed;
 }

@@ -9,16 +9,16 @@ use Rattle.std.specs.FinMap as map
 use Rattle.pgtuple.specs.Cells.{tuple_spelling}
 use Rattle.pgwire.specs.Statuses.{status_frame}
 use Rattle.pgwire.specs.declared.status.Status.{Status}
-use Rattle.pgapply.specs.declared.misses.Misses.{Misses}
 use Rattle.pgapply.specs.Value.{Tables}
 use Rattle.pgapply.specs.Apply.{apply, fold_changes, rows_after}
-use Rattle.pgapply.specs.Missing.{all_missing, nothing_missed}
+use Rattle.pgapply.specs.Missing.{all_missing}
+use Rattle.pgapply.specs.Tallies.{Tally, nothing_taken}
 use Rattle.pgsub_core.specs.Server.History.{tables_as_of}
 use Rattle.pgsub_core.specs.Machine.Feeding.{IsFed}
 use Rattle.pgsub_core.specs.Subscriber.Subscribed.{Subscribed, IsSafeFor}
 use Rattle.pgsub_core.specs.Subscriber.SubscriberValue.{seen}
 use Rattle.pgsub_core.specs.Subscriber.Confirming.{IsSafeStatus}
-use Rattle.pgsub_core.specs.Subscriber.Missed.{history_missed}
+use Rattle.pgsub_core.specs.Subscriber.Tallied.{history_tallied}
 use Rattle.pgsub_core.specs.Subscriber.Safe.{IsSafe, NothingBetween}
 use Rattle.pgsub_core.specs.Subscriber.Safely.{IsSent}
 use Rattle.pgsub_core.proofs.Samples.{first_tables, lookups}
@@ -32,42 +32,42 @@ use Rattle.pgruns.proofs.LiveParts.{count, holds, is_step, One, over, Part, reop
 use Rattle.pgruns.proofs.LiveParts.{step_of, Store, only}
 use Rattle.pgruns.proofs.LiveFed.{bytes_1, bytes_2, bytes_3, bytes_4, bytes_5, bytes_6, bytes_7}
 use Rattle.pgruns.proofs.LiveFed.{fed_1, fed_2, fed_3, fed_4, fed_5, fed_6, fed_7, feeds_1, feeds_2}
-use Rattle.pgruns.proofs.LiveFed.{feeds_3, feeds_4, feeds_5, feeds_6, feeds_7, last_tables, missed}
-use Rattle.pgruns.proofs.LiveFed.{opened, rows_10, rows_11, status}
+use Rattle.pgruns.proofs.LiveFed.{feeds_3, feeds_4, feeds_5, feeds_6, feeds_7, last_tables, opened}
+use Rattle.pgruns.proofs.LiveFed.{rows_10, rows_11, status, tally_10, tally_11}
 use Rattle.pgruns.proofs.LiveSessions.{complete_1, complete_2, history, is_sent, safe_0, session_1}
 use Rattle.pgruns.proofs.LiveSessions.{session_2}
 
 -- ---- the run
 
 abbrev part_1 : Part
-part_1 = record { bytes = bytes_1; misses = nothing_missed; fed = fed_1 }
+part_1 = record { bytes = bytes_1; tally = nothing_taken; fed = fed_1 }
 
 abbrev part_2 : Part
-part_2 = record { bytes = bytes_2; misses = nothing_missed; fed = fed_2 }
+part_2 = record { bytes = bytes_2; tally = nothing_taken; fed = fed_2 }
 
 abbrev part_3 : Part
-part_3 = record { bytes = bytes_3; misses = nothing_missed; fed = fed_3 }
+part_3 = record { bytes = bytes_3; tally = tally_10; fed = fed_3 }
 
 abbrev part_4 : Part
-part_4 = record { bytes = bytes_4; misses = nothing_missed; fed = fed_4 }
+part_4 = record { bytes = bytes_4; tally = tally_10; fed = fed_4 }
 
 abbrev part_5 : Part
-part_5 = record { bytes = bytes_5; misses = nothing_missed; fed = fed_5 }
+part_5 = record { bytes = bytes_5; tally = tally_10; fed = fed_5 }
 
 abbrev part_6 : Part
-part_6 = record { bytes = bytes_6; misses = missed; fed = fed_6 }
+part_6 = record { bytes = bytes_6; tally = tally_11; fed = fed_6 }
 
 abbrev part_7 : Part
-part_7 = record { bytes = bytes_7; misses = missed; fed = fed_7 }
+part_7 = record { bytes = bytes_7; tally = tally_11; fed = fed_7 }
 
 abbrev steps : List (Step Store)
 steps = step_of part_1 ∷ step_of part_2 ∷ step_of part_3 ∷ step_of part_4 ∷ step_of part_5 ∷ step_of part_6 ∷ step_of part_7 ∷ []
 
 abbrev start : One
-start = over nothing_missed opened
+start = over nothing_taken opened
 
 abbrev last : One
-last = over missed (settled false fed_7)
+last = over tally_11 (settled false fed_7)
 
 -- each part is a step, from its bytes
 are_steps : AreSteps holds stands reopens serves count start steps last
@@ -160,14 +160,14 @@ safe_quiet = record {
 abbrev Confirms : Subscribed → Status → Type 0
 Confirms s status = (status.applied ≡ status.flushed) × (status.flushed ≤ s.confirmed) × NothingBetween history s.position status.flushed
 
-all_safe : (m : Misses) (s : Subscribed) (bytes : List ℕ) (tables : Tables) (statuses : List Status)
+all_safe : (m : Tally) (s : Subscribed) (bytes : List ℕ) (tables : Tables) (statuses : List Status)
     → AllByRecursion (Confirms s) statuses
     → AllByRecursion (IsSafeStatus history (record (seen stands (over m s) tables) { replies = bytes })) statuses
 all_safe m s bytes tables [] each = tt
 all_safe m s bytes tables (status ∷ statuses) each =
     (record { same = each.0.0; confirmed = each.0.1; stored = each.0.2 }, all_safe m s bytes tables statuses each.1)
 
-told_safely : (m : Misses) (s : Subscribed) (statuses : List Status) → IsSafeFor history s → AllByRecursion (Confirms s) statuses
+told_safely : (m : Tally) (s : Subscribed) (statuses : List Status) → IsSafeFor history s → AllByRecursion (Confirms s) statuses
     → IsToldSafely holds stands reopens history (over m s) (flat_map status_frame statuses)
 told_safely m s statuses safe each = record {
   rows = (s.tables, refl, safe);
@@ -186,19 +186,19 @@ told_safely m s statuses safe each = record {
 -- then is stored, and is in what a crash leaves, which of this store is all.
 are_told_safely : AreToldSafely holds stands reopens history start steps
 are_told_safely = (
-  told_safely nothing_missed fed_1 [] safe_0 tt,
+  told_safely nothing_taken fed_1 [] safe_0 tt,
   (
-    told_safely nothing_missed fed_2 [] safe_0 tt,
+    told_safely nothing_taken fed_2 [] safe_0 tt,
     (
-      told_safely nothing_missed fed_3 (confirms 560 ∷ []) safe_10 ((refl, omega arith, safe_10.stored), tt),
+      told_safely tally_10 fed_3 (confirms 560 ∷ []) safe_10 ((refl, omega arith, safe_10.stored), tt),
       (
-        told_safely nothing_missed fed_4 [] safe_10 tt,
+        told_safely tally_10 fed_4 [] safe_10 tt,
         (
-          told_safely nothing_missed fed_5 [] safe_10 tt,
+          told_safely tally_10 fed_5 [] safe_10 tt,
           (
-            told_safely missed fed_6 (confirms 816 ∷ []) safe_11 ((refl, omega arith, safe_11.stored), tt),
+            told_safely tally_11 fed_6 (confirms 816 ∷ []) safe_11 ((refl, omega arith, safe_11.stored), tt),
             (
-              told_safely missed fed_7 (confirms 896 ∷ confirms 896 ∷ []) safe_quiet
+              told_safely tally_11 fed_7 (confirms 896 ∷ confirms 896 ∷ []) safe_quiet
                   ((refl, omega arith, safe_quiet.stored), ((refl, omega arith, safe_quiet.stored), tt)),
               tt,
             ),
@@ -209,19 +209,19 @@ are_told_safely = (
   ),
 )
 
--- what the store has counted at the end is what the history misses
-counts_history : history_missed history 0 816 nothing_missed ≡ missed
+-- the store's tally at the end is that of the history
+counts_history : history_tallied history 0 816 nothing_taken ≡ tally_11
 unfolding tables_as_of fold_changes all_missing apply rows_after tuple_spelling
 counts_history = simp lookups
 
 -- ---- what isn't a run
 
 -- where confirmed hasn't moved, nothing is told
-not_moved : news now 0 (over nothing_missed fed_2) ≡ []
+not_moved : news now 0 (over nothing_taken fed_2) ≡ []
 not_moved = refl
 
 -- and where it has, a status
-moved : news now 0 (over nothing_missed fed_3) ≡ status (short 2 48) (short 2 48)
+moved : news now 0 (over tally_10 fed_3) ≡ status (short 2 48) (short 2 48)
 moved = refl
 
 -- no status confirms less than one before it

@@ -36,8 +36,15 @@ use Rattle.pgruns.proofs.LiveFrames.{framed, insert, keepalive, relation, short,
 
 -- (1, a) is inserted, and becomes (1, b); then a row is deleted that isn't there
 abbrev pub history : List Transaction
-history = record { xid = 10; work = Changed (insert_t 49 97) (t ∷ []) Nothing; lsn = 512; end = 560 }
-    ∷ record { xid = 11; work = Changed (update_t 49 98) (t ∷ []) (Changed (delete_t 51) (t ∷ []) Nothing); lsn = 768; end = 816 } ∷ []
+history = record { xid = 10; work = Changed (insert_t 49 97) (t ∷ []) Nothing; lsn = 512; end = 560; time = pos 0 }
+    ∷ record {
+      xid = 11;
+      work = Changed (update_t 49 98) (t ∷ []) (Changed (delete_t 51) (t ∷ []) Nothing);
+      lsn = 768;
+      end = 816;
+      time = pos 0;
+    }
+    ∷ []
 
 rows_0 : tables_as_of history 0 ≡ Ok map.empty
 unfolding tables_as_of fold_changes
@@ -104,7 +111,7 @@ delivers_1 = record {
     follow = (((tt, (tt, tt)), simp open_rows), tt);
     front = refl;
   };
-  commits = ([], _, _, item.Relation t ∷ insert_t 49 97 ∷ [], refl, tt, (refl, refl, refl, refl), refl, tt);
+  commits = ([], _, _, item.Relation t ∷ insert_t 49 97 ∷ [], refl, tt, (refl, refl, refl, refl, refl), refl, tt);
 }
 
 -- the second session describes the changes of xid 11 by the Relation message of the transaction
@@ -125,9 +132,9 @@ delivers_2 = record {
     item.Relation t ∷ insert_t 49 97 ∷ [],
     refl,
     tt,
-    (refl, refl, refl, refl),
+    (refl, refl, refl, refl, refl),
     refl,
-    ([], _, _, update_t 49 98 ∷ delete_t 51 ∷ [], refl, tt, (refl, refl, refl, refl), refl, (tt, tt)),
+    ([], _, _, update_t 49 98 ∷ delete_t 51 ∷ [], refl, tt, (refl, refl, refl, refl, refl), refl, (tt, tt)),
   );
 }
 

@@ -102,9 +102,10 @@ module _ {F D : Type 0} (seen : D → List ℕ) (may_leave : D → List ℕ → 
           ended why out out'
       AppliesBeside limits input why out out' opened ended (Some plan) None = ⊥
       AppliesBeside limits input why out out' opened ended (Some plan) (Some feed) =
-          (begun : Feed F D) × opens plan opened.position begun
+          (begun : Feed F D) × opens plan opened.position begun × (from : ℕ)
           × Applies {C = Recorded (StoreValue S) (Feed F D)} (λ r. IsHonest g r.store) (λ r. Serves g r.store)
           (HoldsRecorded g supposed told_from (KeepsRest seen may_leave is_clean is_true places has)
           (LastsFrom seen may_leave is_clean is_true places has) is_stuck_feed) (λ r. r.store.position)
           (ReopensRecorded g supposed (ReopensAt seen may_leave is_clean is_true places has)) gives starts unread takes failed limits input
-          (record { store = opened; ledger = begun }) (record { store = ended; ledger = feed }) why out out'
+          (record { store = opened; ledger = begun; from = opened.position })
+          (record { store = ended; ledger = feed; from = from }) why out out'

@@ -16,7 +16,7 @@ use Rattle.pgcommand.specs.declared.limits.Limits.{Limits}
 use Rattle.pgorder.specs.declared.Version.{Version}
 use Rattle.pgapply.specs.declared.fault.StoreFault.{StoreFault}
 use Rattle.pgapply.specs.declared.fault.StoreFault.TheVariants as store
-use Rattle.pgapply.specs.Missing.{nothing_missed}
+use Rattle.pgapply.specs.Tallies.{nothing_taken}
 use Rattle.pgmemory.specs.Stopped.{Leaves}
 use Rattle.pgrows.specs.Rows.{state}
 use Rattle.pgstore.specs.StoreValue.{StoreValue, HasTables, IsHonest, Serves}
@@ -72,7 +72,7 @@ module _ {S : Type 0} (g : Ghosts S) where
       (told : Reported (StoreValue S) L) × (last : Reported (StoreValue S) L) × (told.store ≡ opened) × (last.store ≡ ended)
       × FollowsBuffered {C = Reported (StoreValue S) L} (λ r. HasTables g r.store) (λ r. r.store.position)
       (λ r other. Reopens g g r.store other.store) (λ r. Serves g r.store)
-      (λ r. r.store.group.missed) spool unread rest reads wrote wrote' limits version told last honesty why
+      (λ r. r.store.group.tally) spool unread rest reads wrote wrote' limits version told last honesty why
 
   -- a crash of the one store leaves nothing that it couldn't leave of the other
   abbrev pub LeavesNothingNew : StoreValue S → StoreValue S → Type 0
@@ -98,7 +98,7 @@ module _ {D : Type 0} {g : disk.Ghosts D} where
 
   -- A run over files that had this content: a store that holds what is stored in them was opened,
   -- if the disks gave back what was written until the run had ended, as this says of its store, and
-  -- had counted no change without a row; the run led from it to another; and that one was closed.
+  -- had taken nothing; the run led from it to another; and that one was closed.
   pub record RunsInFiles (kept : StoreValue (FileStore D g) → Type 0) (content : Image)
       (leads : StoreValue (FileStore D g) → StoreValue (FileStore D g) → Type 0)
       (closing : Result (Files D) (StoreFault × FileStore D g)) : Type 0 where
@@ -106,6 +106,6 @@ module _ {D : Type 0} {g : disk.Ghosts D} where
     pub ended : StoreValue (FileStore D g)
     pub found : kept ended → HoldsContent over_files content opened
     pub serves : kept ended → Serves over_files opened
-    pub unmissed : opened.group.missed ≡ nothing_missed
+    pub untaken : opened.group.tally ≡ nothing_taken
     pub run : leads opened ended
     pub closes : ClosesTo ended closing

@@ -8,3 +8,4 @@ IsOfMaking spool.Memory = Unit {0}
 IsOfMaking spool.NotWritten = Unit {0}
 IsOfMaking spool.NoRoom = Unit {0}
 IsOfMaking spool.NotRead = ⊥
+IsOfMaking spool.TooManyOpen = ⊥

@@ -123,7 +123,7 @@ pub(crate) fn follow_over<
         × (result.0 ≡ status_of_unfed f) × (result.1 ≡ store) × (io.new.link ≡ io.old.link)
         × (io.new.honesty ≡ io.old.honesty) × TellsUnfed E.takes E.failed f io.old.err io.new.err }
     ensures ran { IsRun plan.feed result.2 → (why : Option FollowFault)
-        × (result.0 ≡ status_of_follow result.1.group.missed.count why)
+        × (result.0 ≡ status_of_follow result.1.group.tally.misses.count why)
         × TellsCaused E.takes E.failed (ending_of why) io.old.err io.new.err
         × ((why ≡ Some fault.Read) ↔ (io.new.link.read_failed ≡ true))
         × ((why ≡ Some fault.Write) ↔ (io.new.link.write_failed ≡ true))

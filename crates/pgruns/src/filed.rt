@@ -152,9 +152,10 @@ pub fn follow<
         × IfSome why (IsOfFollowingOver (may_fail_over plan.spool))
         × RunsInFiles (IsKept over_files plan.spool io.new.honesty) (image_at F.Start)
         (λ opened ended.
-        (result.0 ≡ status_closed status_of_unclosed (status_of_follow ended.group.missed.count why)
-        (fault_of_closing closing)) × AfterLoad (HasTables over_files) position_of
-        (Reopens over_files over_files) (Serves over_files) (IsHonest over_files) plan.load
+        (result.0 ≡ status_closed status_of_unclosed
+        (status_of_follow ended.group.tally.misses.count why) (fault_of_closing closing))
+        × AfterLoad (HasTables over_files) position_of (Reopens over_files over_files)
+        (Serves over_files) (IsHonest over_files) plan.load
         (R.remaining io.old.link.reader) opened (λ rest loaded.
         FollowsBeside D.File.seen D.File.may_leave D.File.is_clean
         D.is_true D.places D.has D.supposed B.opens over_files L plan.spool rest

@@ -123,7 +123,7 @@ pub(crate) fn follow_loaded<
         (IsHonest S.Store) plan.load (R.remaining io.old.link.reader) store (λ rest loaded.
         (rest ≡ R.remaining io.new.link.reader) × (loaded ≡ result.1)) }
     ensures ran { result.3 ≡ None → IsRun plan.feed result.2 → (why : Option FollowFault)
-        × (result.0 ≡ status_of_follow result.1.group.missed.count why)
+        × (result.0 ≡ status_of_follow result.1.group.tally.misses.count why)
         × TellsCaused E.takes E.failed (ending_of why) io.old.err io.new.err
         × ((why ≡ Some fault.Read) ↔ (io.new.link.read_failed ≡ true))
         × ((why ≡ Some fault.Write) ↔ (io.new.link.write_failed ≡ true))

@@ -30,8 +30,8 @@ impl<C: ReplicaStore + Drop, D: Disk + Drop> Loads<Spooled<C>> for LiveSpools<D>
         ensures beside { LoadsBeside ⟦<Spooled<C> as ReplicaStore>⟧.serves
             ⟦<Spooled<C> as ReplicaStore>⟧.is_honest ⟦<Spooled<C> as ReplicaStore>⟧.holds
             ⟦<Spooled<C> as ReplicaStore>⟧.stages ⟦<Spooled<C> as ReplicaStore>⟧.place
-            ⟦<Spooled<C> as ReplicaStore>⟧.reach ⟦<Spooled<C> as ReplicaStore>⟧.missed
-            ⟦<Spooled<C> as ReplicaStore>⟧.stages_missed
+            ⟦<Spooled<C> as ReplicaStore>⟧.reach ⟦<Spooled<C> as ReplicaStore>⟧.tally
+            ⟦<Spooled<C> as ReplicaStore>⟧.stages_tally
             ⟦<Spooled<C> as ReplicaStore>⟧.reopens store.old store.new }
     {
         let loaded = self.load(xid);
@@ -52,8 +52,8 @@ impl<C: ReplicaStore + Drop, D: Disk + Drop> Loads<Spooled<C>> for LiveSpools<D>
         ensures beside { LoadsBeside ⟦<Spooled<C> as ReplicaStore>⟧.serves
             ⟦<Spooled<C> as ReplicaStore>⟧.is_honest ⟦<Spooled<C> as ReplicaStore>⟧.holds
             ⟦<Spooled<C> as ReplicaStore>⟧.stages ⟦<Spooled<C> as ReplicaStore>⟧.place
-            ⟦<Spooled<C> as ReplicaStore>⟧.reach ⟦<Spooled<C> as ReplicaStore>⟧.missed
-            ⟦<Spooled<C> as ReplicaStore>⟧.stages_missed
+            ⟦<Spooled<C> as ReplicaStore>⟧.reach ⟦<Spooled<C> as ReplicaStore>⟧.tally
+            ⟦<Spooled<C> as ReplicaStore>⟧.stages_tally
             ⟦<Spooled<C> as ReplicaStore>⟧.reopens store.old store.new }
     {
         Spooled::note(store, self);

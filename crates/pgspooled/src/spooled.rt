@@ -61,9 +61,9 @@ impl<C: ReplicaStore + Drop> ReplicaStore for Spooled<C> {
 
     ghost reach = { λ s. C.reach s.store };
 
-    ghost missed = { λ s. C.missed s.store };
+    ghost tally = { λ s. C.tally s.store };
 
-    ghost stages_missed = { λ s. C.stages_missed s.store };
+    ghost stages_tally = { λ s. C.stages_tally s.store };
 
     ghost reopens = { λ s other. C.reopens s.store other.store };
 

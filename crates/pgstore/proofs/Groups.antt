@@ -1,5 +1,6 @@
 -- What holds of the commits that are staged, and what becomes of them.
 use Rattle.std.proofs.Common.{◌≡◌, ◌≢◌, ◌≤◌, ◌<◌, ◌^◌, inl, inr, ℕ, Bool, true, false, List, Ok}
+use Rattle.std.proofs.Common.{◌++◌, Option}
 use Rattle.std.proofs.Common.{IsTrue, refl, sym, ap, subst, ◌∙◌, arith}
 use Rattle.std.specs.Prelude.{◌==◌}
 use Rattle.std.specs.Int.{w64, to_be_bytes}
@@ -14,6 +15,7 @@ use Rattle.sqlite.proofs.StateLemmas.{survives_weaker}
 use Rattle.pglogical.specs.declared.message.RelationDef.{RelationDef}
 use Rattle.pgtables.specs.Kept.{tables_in}
 use Rattle.pgrows.specs.Rows.{state, tables_of}
+use Rattle.pgapply.specs.declared.commit.About.{About}
 use Rattle.pgapply.specs.declared.op.Op.{Op}
 use Rattle.pgapply.specs.declared.misses.Misses.{Misses}
 use Rattle.pgapply.specs.declared.fault.StoreFault.{StoreFault}
@@ -21,7 +23,8 @@ use Rattle.pgapply.specs.Value.{Tables}
 use Rattle.pgapply.specs.Works.{change_values}
 use Rattle.pgapply.specs.Apply.{Change, fold_changes}
 use Rattle.pgapply.specs.Stored.{Stored, IsFault}
-use Rattle.pgapply.specs.Missing.{Counts, all_missing, with_misses}
+use Rattle.pgapply.specs.Missing.{all_missing, with_misses}
+use Rattle.pgapply.specs.Tallies.{Counts, Tally, taken_commit}
 use Rattle.pgapply.specs.Taken as taken
 use Rattle.pgstore.specs.Spelled.{IsStored}
 use Rattle.pgstore.specs.Acts.{CountsFrom, RefusesToFold, committed_of}
@@ -38,7 +41,7 @@ apart a b differ same = let yes : (a == b) ≡ true = (unsigned_Decides a b).1 s
 -- ---- nothing is staged
 
 pub empty_group : {S : Type 0} (g : Ghosts S) (rows : S) (position : ℕ) (group : Group) → position < 2 ^ 64 → group.reach ≡ position
-    → group.is_lost ≡ false → group.stages_missed ≡ group.missed → IsGroup g rows position group
+    → group.is_lost ≡ false → group.stages_tally ≡ group.tally → IsGroup g rows position group
 empty_group g rows position group range here stands even = record {
   order = omega (arith, here);
   range = omega (arith, here, range);
@@ -55,9 +58,9 @@ module _ {S : Type 0} (g : Ghosts S) (rows : S) (position : ℕ) (range : positi
   unstaged_empty before is =
       subst (IsGroup g rows position) (sym is) (empty_group g rows position (unstaged_of position before) range refl refl refl)
 
-  pub taken_empty : (misses : Misses) → group ≡ taken_of position misses → IsGroup g rows position group
-  taken_empty misses is = subst (IsGroup g rows position) (sym is)
-      (empty_group g rows position (taken_of position misses) range refl refl refl)
+  pub taken_empty : (tally : Tally) → group ≡ taken_of position tally → IsGroup g rows position group
+  taken_empty tally is = subst (IsGroup g rows position) (sym is)
+      (empty_group g rows position (taken_of position tally) range refl refl refl)
 
 module _ {S : Type 0} (g : Ghosts S) (s : StoreValue S) (is : IsGroup g s.rows s.position s.group) (here : s.group.reach ≡ s.position) where
   first_is : (s.group.reach == s.position) ≡ true
@@ -109,10 +112,10 @@ module _ {S : Type 0} (g : Ghosts S) (old new : S) (position : ℕ) (group : Gro
 
   module _ (definitions : List RelationDef) (entries : List (ℕ × Op)) (changes : List Change)
       (are : change_values definitions entries ≡ changes) where
-    pub staged_group : (end : ℕ) (misses : Misses) → group.reach < end → end < 2 ^ 64 → group.is_lost ≡ false → IsStore g old position
+    pub staged_group : (end : ℕ) (tally : Tally) → group.reach < end → end < 2 ^ 64 → group.is_lost ≡ false → IsStore g old position
         → IsGroup g old position group → (HasCleanDisk (state g new) → HasStaged g is_first old new definitions entries)
-        → IsGroup g new position (staged_of end misses group)
-    staged_group end misses later range not store is staged =
+        → IsGroup g new position (staged_of end tally group)
+    staged_group end tally later range not store is staged =
         let order = is.order in
         record {
           order = omega (arith, order, later);
@@ -126,11 +129,11 @@ module _ {S : Type 0} (g : Ghosts S) (old new : S) (position : ℕ) (group : Gro
               (f.0, f.2);
         }
 
-    pub stages_folds : (end : ℕ) (misses : Misses) → position ≤ group.reach → group.reach < end → group.is_lost ≡ false
+    pub stages_folds : (end : ℕ) (tally : Tally) → position ≤ group.reach → group.reach < end → group.is_lost ≡ false
         → HasStaged g is_first old new definitions entries
         → taken.Folds (Plans g) (record { rows = old; position = position; group = group })
-        (record { rows = new; position = position; group = staged_of end misses group }) changes
-    stages_folds end misses order later not it t plans =
+        (record { rows = new; position = position; group = staged_of end tally group }) changes
+    stages_folds end tally order later not it t plans =
         let f = it.folds t (was_planned t plans not) in
         let other : (end == position) ≡ false = elim (cases_Bool (end == position)) [
           | inl same ↦ absurd (let e = (unsigned_Decides end position).0 same in let never : ⊥ = omega (arith, order, later, e) in never)
@@ -138,11 +141,16 @@ module _ {S : Type 0} (g : Ghosts S) (old new : S) (position : ℕ) (group : Gro
         ] in
         (f.0, subst (λ cs. fold_changes t cs ≡ Ok f.0) are f.1, λ _. subst (λ b. IsStored f.0 (before_of g b new)) (sym other) f.2)
 
-    pub stages_count : (end : ℕ) (misses : Misses) (behind : Group) → group.is_lost ≡ false
-        → CountsFrom (before_of g is_first old) definitions entries end group.stages_missed misses
-        → Counts (Plans g) (record { rows = old; position = position; group = group }) changes end group.stages_missed misses
-    stages_count end misses behind not counts t plans =
-        subst (λ cs. misses ≡ with_misses group.stages_missed end (all_missing t cs)) are (counts t (was_planned t plans not))
+    pub stages_count : (end : ℕ) (about : Option About) (misses : Misses) → group.is_lost ≡ false
+        → CountsFrom (before_of g is_first old) definitions entries end group.stages_tally.misses misses
+        → Counts (Plans g) (record { rows = old; position = position; group = group }) end about changes group.stages_tally (record {
+          misses = misses;
+          commits = group.stages_tally.commits ++ taken_commit end about changes;
+        })
+    stages_count end about misses not counts t plans =
+        let counted = subst (λ cs. misses ≡ with_misses group.stages_tally.misses end (all_missing t cs)) are
+        (counts t (was_planned t plans not)) in
+        λ i. record { misses = counted i; commits = group.stages_tally.commits ++ taken_commit end about changes }
 
     pub stage_refuses : (fault : StoreFault) → group.is_lost ≡ false → RefusesToFold (before_of g is_first old) definitions entries fault
         → taken.RefusesWork (Plans g) (record { rows = old; position = position; group = group }) changes fault

@@ -18,6 +18,7 @@ use Rattle.pgapply.specs.declared.misses.Misses.{Misses}
 use Rattle.pgapply.specs.Works.{change_value, change_values}
 use Rattle.pgapply.specs.Apply.{Change, ◌>>=◌, fold_changes}
 use Rattle.pgapply.specs.Missing.{all_missing, with_misses}
+use Rattle.pgapply.specs.Tallies.{Tally}
 use Rattle.pgapply.specs.Stored.{IsFault}
 use Rattle.pgstore.specs.Acts.{CountsFrom, Folds, Goes, none_given}
 use Rattle.pgstore.specs.Parted.{HasStagedParts, RefusesChanges, StagesParts, TakesParts}
@@ -158,11 +159,11 @@ module _ {S : Type 0} (g : Ghosts S) where
 
 pub parted_group : {S : Type 0} (g : Ghosts S) (old new : S) (position : ℕ) (group : Group) (is_first : Bool)
     (first : is_first ≡ (group.reach == position)) (doubts : doubt (state g old).is_clean ≤ doubt (state g new).is_clean)
-    (is_honest : Type 0) (all : List Change) (end : ℕ) (before misses : Misses) → group.reach < end → end < 2 ^ 64
+    (is_honest : Type 0) (all : List Change) (end : ℕ) (before misses : Misses) (tally : Tally) → group.reach < end → end < 2 ^ 64
     → group.is_lost ≡ false → IsStore g old position → IsGroup g old position group
     → (HasCleanDisk (state g new) → HasStagedParts g is_first old new is_honest all end before misses)
-    → IsGroup g new position (staged_of end misses group)
-parted_group g old new position group is_first first doubts is_honest all end before misses later range not store is staged =
+    → IsGroup g new position (staged_of end tally group)
+parted_group g old new position group is_first first doubts is_honest all end before misses tally later range not store is staged =
     let order = is.order in
     record {
       order = omega (arith, order, later);
@@ -171,6 +172,6 @@ parted_group g old new position group is_first first doubts is_honest all end be
       some = λ lost. absurd (let never : ⊥ = cc in never);
       stored = λ more stands clean still.
           let it = staged clean in
-          (staged_group g old new position group is_first first doubts it.definitions it.changes _ refl end misses later range not store is
+          (staged_group g old new position group is_first first doubts it.definitions it.changes _ refl end tally later range not store is
           (λ _. it.staged)).stored more stands clean still;
     }

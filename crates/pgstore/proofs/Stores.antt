@@ -26,7 +26,7 @@ use Rattle.pgapply.specs.Value.{Table}
 use Rattle.pgapply.specs.Works.{change_values}
 use Rattle.pgapply.specs.Apply.{Change, fold_changes}
 use Rattle.pgapply.specs.Stored.{Stored, IsFault}
-use Rattle.pgapply.specs.Missing.{nothing_missed}
+use Rattle.pgapply.specs.Tallies.{nothing_taken}
 use Rattle.pgstore.specs.Spelled.{IsStored, spelled_definition, spelled_row, row_in}
 use Rattle.pgstore.specs.Acts.{HasTaken, LeavesTaken, RefusesToFold, committed_of}
 use Rattle.pgstore.specs.StoreValue.{AreOf, Group, IsAtLeast, Keeps, IsStore, HasMade, Serves}
@@ -34,9 +34,9 @@ use Rattle.pgstore.specs.StoreValue.{Holds, Contains, Takes, Stays, RefusesWork,
 use Rattle.pgstore.specs.StoreValue.{nothing_stored}
 use Rattle.pgapply.proofs.KeepsForm.{none_keeps}
 
--- nothing is staged, and nothing was missed
+-- nothing is staged, and nothing was taken
 abbrev pub at_rest : Group
-at_rest = record { reach = 0; is_lost = false; missed = nothing_missed; stages_missed = nothing_missed }
+at_rest = record { reach = 0; is_lost = false; tally = nothing_taken; stages_tally = nothing_taken }
 
 -- ---- a crash between calls
 

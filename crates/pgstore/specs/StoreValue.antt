@@ -1,6 +1,6 @@
 -- What a caller sees of a store, and what holds of each.
 use Rattle.std.specs.Prelude.{◌≡◌, ◌<◌, ◌≤◌, ◌^◌, ◌⊎◌, ℕ, Bool, true, false, not, ◌&&◌}
-use Rattle.std.specs.Prelude.{if◌then◌else◌, ◌==◌, List, [], ◌∷◌, Option, Some, None, IsTrue, Ok}
+use Rattle.std.specs.Prelude.{if◌then◌else◌, ◌==◌, List, [], ◌∷◌, IsTrue, Ok}
 use Rattle.std.specs.Prelude.{refl}
 use Rattle.std.specs.Coded.{Coded, code_by, coded×, coded_bool, coded_option, coded_ℕ}
 use Rattle.std.specs.Int.{w64, to_be_bytes}
@@ -17,14 +17,13 @@ use Rattle.pgtables.specs.Kept.{AreDefined, AreHeld, IsKept, pos_row, tables_in}
 use Rattle.pgrows.specs.Rows.{IfServing, database, state, tables_of}
 use Rattle.pgtables.specs.declared.remains.Remains.{Remains}
 use Rattle.pgtables.specs.Remains.{remaining, schema_of}
-use Rattle.pgapply.specs.declared.misses.Miss.{Miss}
-use Rattle.pgapply.specs.declared.misses.Misses.{Misses}
 use Rattle.pgapply.specs.declared.fault.StoreFault.{StoreFault}
 use Rattle.pgapply.specs.Value.{Tables}
 use Rattle.pgapply.specs.Apply.{Change, fold_changes}
 use Rattle.pgapply.specs.Stored.{Stored, IsFault}
-use Rattle.pgapply.specs.Missing.{nothing_missed}
+use Rattle.pgapply.specs.Tallies.{Tally, nothing_taken}
 use Rattle.pgstore.specs.Acts.{committed_of}
+use Rattle.pgstore.specs.Codes.{tally_code}
 use Rattle.pgstore.specs.Staged.{before_of}
 use Rattle.pgstore.specs.Spelled.{IsStored}
 
@@ -34,20 +33,20 @@ pub record Group : Type 0 where
   pub reach : ℕ
   -- they are lost, and what the transaction shows says nothing
   pub is_lost : Bool
-  -- how many changes found no row, of the commits that were taken, and with those that are staged
-  pub missed : Misses
-  pub stages_missed : Misses
+  -- the commits that were taken since the store was opened, and these with those that are staged
+  pub tally : Tally
+  pub stages_tally : Tally
 
--- what becomes of a group: nothing was staged or missed yet, it is forgotten, has one commit more,
+-- what becomes of a group: nothing was staged or taken yet, it is forgotten, has one commit more,
 -- is lost, is taken, or a commit by itself was
 abbrev pub begun_at : ℕ → Group
-begun_at position = record { reach = position; is_lost = false; missed = nothing_missed; stages_missed = nothing_missed }
+begun_at position = record { reach = position; is_lost = false; tally = nothing_taken; stages_tally = nothing_taken }
 
 abbrev pub unstaged_of : ℕ → Group → Group
-unstaged_of position a = record { reach = position; is_lost = false; missed = a.missed; stages_missed = a.missed }
+unstaged_of position a = record { reach = position; is_lost = false; tally = a.tally; stages_tally = a.tally }
 
-abbrev pub staged_of : ℕ → Misses → Group → Group
-staged_of end misses a = record a { reach = end; stages_missed = misses }
+abbrev pub staged_of : ℕ → Tally → Group → Group
+staged_of end tally a = record a { reach = end; stages_tally = tally }
 
 abbrev pub lost_of : Group → Group
 lost_of a = record a { is_lost = true }
@@ -57,10 +56,10 @@ abbrev pub refused_of : Bool → Bool → Group → Group
 refused_of is_lost is_first a = if is_lost && not is_first then lost_of a else a
 
 abbrev pub settled_of : Group → Group
-settled_of a = record a { is_lost = false; missed = a.stages_missed }
+settled_of a = record a { is_lost = false; tally = a.stages_tally }
 
-abbrev pub taken_of : ℕ → Misses → Group
-taken_of end misses = record { reach = end; is_lost = false; missed = misses; stages_missed = misses }
+abbrev pub taken_of : ℕ → Tally → Group
+taken_of end tally = record { reach = end; is_lost = false; tally = tally; stages_tally = tally }
 
 -- the store of its rows, its position, and what is staged
 pub record StoreValue (S : Type 0) : Type 0 where
@@ -69,29 +68,11 @@ pub record StoreValue (S : Type 0) : Type 0 where
   pub group : Group
 
 -- a store is stored as the tuple of its parts
-abbrev pub first_pair : Option Miss → Option (ℕ × ℕ)
-first_pair None = None
-first_pair (Some m) = Some (m.end, m.oid)
-
-abbrev pub pair_first : Option (ℕ × ℕ) → Option Miss
-pair_first None = None
-pair_first (Some p) = Some (record { end = p.0; oid = p.1 })
-
-pub pair_back : (o : Option Miss) → pair_first (first_pair o) ≡ o
-pair_back None = refl
-pair_back (Some m) = refl
-
-abbrev pub misses_code : Coded Misses
-misses_code =
-    code_by (ℕ × Option (ℕ × ℕ)) (coded× coded_ℕ (coded_option (coded× coded_ℕ coded_ℕ))) (λ m. (m.count, first_pair m.first))
-    (λ p. record { count = p.0; first = pair_first p.1 })
-    (λ m i. record { count = m.count; first = pair_back m.first i })
-
 abbrev pub group_code : Coded Group
 group_code =
-    code_by (ℕ × (Bool × (Misses × Misses))) (coded× coded_ℕ (coded× coded_bool (coded× misses_code misses_code)))
-    (λ a. (a.reach, (a.is_lost, (a.missed, a.stages_missed))))
-    (λ p. record { reach = p.0; is_lost = p.1.0; missed = p.1.1.0; stages_missed = p.1.1.1 }) (λ _. refl)
+    code_by (ℕ × (Bool × (Tally × Tally))) (coded× coded_ℕ (coded× coded_bool (coded× tally_code tally_code)))
+    (λ a. (a.reach, (a.is_lost, (a.tally, a.stages_tally))))
+    (λ p. record { reach = p.0; is_lost = p.1.0; tally = p.1.1.0; stages_tally = p.1.1.1 }) (λ _. refl)
 
 abbrev pub store_code : {S : Type 0} → Coded S → Coded (StoreValue S)
 store_code {S} store =
@@ -175,7 +156,7 @@ module _ {S : Type 0} (g : Ghosts S) where
     pub order : position ≤ group.reach
     pub range : group.reach < 2 ^ 64
     -- where nothing is staged, nothing is counted beside, and nothing can be lost
-    pub counted : group.reach ≡ position → group.stages_missed ≡ group.missed
+    pub counted : group.reach ≡ position → group.stages_tally ≡ group.tally
     pub some : group.is_lost ≡ true → position < group.reach
     -- what the transaction shows are tables of a store
     pub stored : position < group.reach → group.is_lost ≡ false → IfServing g rows ((v : Tables) × IsStored v (tables_of g rows))

@@ -25,6 +25,9 @@ no_store = refl
 spools_full : status_of_follow 0 (Some (follow.Stream (fault.Spool spool.SpoolFull))) ≡ 10
 spools_full = refl
 
+too_many_open : status_of_follow 0 (Some (follow.Stream (fault.Spool spool.TooManyOpen))) ≡ 10
+too_many_open = refl
+
 spools_failed : status_of_follow 0 (Some (follow.Stream (fault.Spool spool.NoRoom))) ≡ 13
 spools_failed = refl
 

@@ -89,6 +89,7 @@ spool_text spool.Memory = memory_text
 spool_text spool.NotWritten = codes "spool 3 NotWritten"
 spool_text spool.NoRoom = codes "spool 4 NoRoom"
 spool_text spool.NotRead = codes "spool 5 NotRead"
+spool_text spool.TooManyOpen = codes "spool 6 TooManyOpen"
 
 abbrev pub store_text : StoreFault → List ℕ
 store_text store.Clash = codes "store 1 Clash"

@@ -36,6 +36,7 @@ status_of_fault (fault.Spool spool.Memory) = 14
 status_of_fault (fault.Spool spool.NotWritten) = 13
 status_of_fault (fault.Spool spool.NoRoom) = 13
 status_of_fault (fault.Spool spool.NotRead) = 13
+status_of_fault (fault.Spool spool.TooManyOpen) = 10
 status_of_fault (fault.Store f) = status_of_store f
 status_of_fault fault.Read = 15
 status_of_fault fault.Closed = 1

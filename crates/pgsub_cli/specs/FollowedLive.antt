@@ -2,7 +2,7 @@
 use Rattle.std.specs.Prelude.{◌≡◌, ⊤, ℕ, List, Option, None, Some, Result, Ok, Err, IsTrue}
 use Rattle.pgcommand.specs.declared.limits.Limits.{Limits}
 use Rattle.pgorder.specs.declared.Version.{Version}
-use Rattle.pgapply.specs.declared.misses.Misses.{Misses}
+use Rattle.pgapply.specs.Tallies.{Tally}
 use Rattle.pgapply.specs.Value.{Tables}
 use Rattle.pgsub_core.specs.declared.fault.Fault.TheVariants as fault
 use Rattle.pgsub_core.specs.Subscriber.SubscriberValue.{SubscriberValue, seen}
@@ -26,7 +26,7 @@ ending_of (Some (follow.Stream f)) = Err (run.Stream f)
 
 -- A subscriber over the one store, within these limits, followed a server; its store is then the
 -- other.
-abbrev pub FollowsOver : {C : Type 0} → (C → Tables → Type 0) → (C → ℕ) → (C → C → Type 0) → (C → Type 0) → (C → Misses) → Option (List ℕ)
+abbrev pub FollowsOver : {C : Type 0} → (C → Tables → Type 0) → (C → ℕ) → (C → C → Type 0) → (C → Type 0) → (C → Tally) → Option (List ℕ)
     → Option (List ℕ) → ℕ → Option (List ℕ) → Option (List ℕ) → Limits → Version → C → C → Option FollowFault → Type 0
 FollowsOver {C} holds place reopens serves count unread rest reads wrote wrote' limits version store store' ended =
     (old : SubscriberValue C) × (new : SubscriberValue C) × (old.applied.store ≡ store) × (new.applied.store ≡ store')
@@ -46,7 +46,7 @@ IsReadBack None honesty = ⊤
 IsReadBack (Some file) honesty = IsTrue honesty.is_true
 
 module _ {C : Type 0} (holds : C → Tables → Type 0) (place : C → ℕ) (reopens : C → C → Type 0) (serves : C → Type 0)
-    (count : C → Misses) where
+    (count : C → Tally) where
   -- `FollowsOver`, of a store beside which it is noted whether what is read of the file is what was
   -- written to it: it serves while that is so.
   abbrev pub FollowsSpooled : Option (List ℕ) → Option (List ℕ) → ℕ → Option (List ℕ) → Option (List ℕ) → Limits → Version → C → C

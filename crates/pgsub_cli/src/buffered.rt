@@ -105,13 +105,13 @@ fn run_spooled<
     requires readable { io.old.link.read_failed ≡ false }
     requires writable { io.old.link.write_failed ≡ false }
     ensures ends { (ended : Option FollowFault)
-        × (result.0 ≡ status_of_follow (C.missed result.1).count ended)
+        × (result.0 ≡ status_of_follow (C.tally result.1).misses.count ended)
         × TellsCaused E.takes E.failed (ending_of ended) io.old.err io.new.err
         × ((ended ≡ Some follow.Read) ↔ (io.new.link.read_failed ≡ true))
         × ((ended ≡ Some follow.Write) ↔ (io.new.link.write_failed ≡ true))
         × IfSome ended (IsOfFollowingOver ⊤)
         × (IsTrue result.2.is_true → C.is_honest result.1 → C.serves store →
-        FollowsSpooled C.holds C.place C.reopens C.serves C.missed
+        FollowsSpooled C.holds C.place C.reopens C.serves C.tally
         (R.remaining io.old.link.reader) (R.remaining io.new.link.reader) io.new.link.reads
         (W.contents io.old.link.writer) (W.contents io.new.link.writer) limits version store
         result.1 result.2 ended) }
@@ -153,13 +153,13 @@ pub fn run_buffered<
     requires readable { io.old.link.read_failed ≡ false }
     requires writable { io.old.link.write_failed ≡ false }
     ensures ends { (ended : Option FollowFault)
-        × (result.0 ≡ status_of_follow (C.missed result.1).count ended)
+        × (result.0 ≡ status_of_follow (C.tally result.1).misses.count ended)
         × TellsCaused E.takes E.failed (ending_of ended) io.old.err io.new.err
         × ((ended ≡ Some follow.Read) ↔ (io.new.link.read_failed ≡ true))
         × ((ended ≡ Some follow.Write) ↔ (io.new.link.write_failed ≡ true))
         × IfSome ended (IsOfFollowingOver (may_fail_over spool))
         × (IsReadBack spool io.new.honesty → C.is_honest result.1 → C.serves store →
-        FollowsBuffered C.holds C.place C.reopens C.serves C.missed spool
+        FollowsBuffered C.holds C.place C.reopens C.serves C.tally spool
         (R.remaining io.old.link.reader) (R.remaining io.new.link.reader) io.new.link.reads
         (W.contents io.old.link.writer) (W.contents io.new.link.writer) limits version store
         result.1 io.new.honesty ended) }

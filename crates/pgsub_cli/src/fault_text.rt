@@ -191,6 +191,7 @@ fn write_spool<W: fmt::Write>(f: &mut fmt::Formatter<W>, fault: SpoolFault) -> f
         SpoolFault::NotWritten => "spool 3 NotWritten",
         SpoolFault::NoRoom => "spool 4 NoRoom",
         SpoolFault::NotRead => "spool 5 NotRead",
+        SpoolFault::TooManyOpen => "spool 6 TooManyOpen",
     })
 }
 

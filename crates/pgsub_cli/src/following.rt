@@ -56,7 +56,7 @@ pub fn fault_status(fault: Fault) -> u8
     ensures { result ≡ status_of_fault fault }
 {
     match fault {
-        Fault::Spool(SpoolFault::SpoolFull) => 10,
+        Fault::Spool(SpoolFault::SpoolFull | SpoolFault::TooManyOpen) => 10,
         Fault::Wire(WireFault::TooLarge) => 11,
         Fault::Spool(SpoolFault::NotWritten | SpoolFault::NoRoom | SpoolFault::NotRead) => 13,
         Fault::Store(fault) => store_status(fault),
@@ -154,14 +154,14 @@ pub(crate) fn follow_with<
     requires writable { link.old.write_failed ≡ false }
     ensures status { result.0 ≤ 16 }
     ensures ends { (ended : Option FollowFault)
-        × (result.0 ≡ status_of_follow (C.missed result.1).count ended)
+        × (result.0 ≡ status_of_follow (C.tally result.1).misses.count ended)
         × TellsCaused E.takes E.failed (ending_of ended) err.old err.new
         × ((ended ≡ Some follow.Read) ↔ (link.new.read_failed ≡ true))
         × ((ended ≡ Some follow.Write) ↔ (link.new.write_failed ≡ true))
         × IfSome ended (IsOfFollowingOver P.may_fail)
         × (C.is_honest result.1 → C.serves subscriber.applied.store →
         (new : SubscriberValue C) × (new.applied.store ≡ result.1)
-        × FollowsLive C.holds C.place C.reopens C.serves C.missed
+        × FollowsLive C.holds C.place C.reopens C.serves C.tally
         (R.remaining link.old.reader) (R.remaining link.new.reader) link.new.reads
         (W.contents link.old.writer) (W.contents link.new.writer) subscriber new ended) }
     ensures honest { C.is_honest result.1 → C.is_honest subscriber.applied.store }
@@ -197,13 +197,13 @@ pub fn run_follow<R: Read + Drop, W: Write + Drop, K: Clock, C: ReplicaStore + D
     requires writable { link.old.write_failed ≡ false }
     ensures status { result.0 ≤ 16 }
     ensures ends { (ended : Option FollowFault)
-        × (result.0 ≡ status_of_follow (C.missed result.1).count ended)
+        × (result.0 ≡ status_of_follow (C.tally result.1).misses.count ended)
         × TellsCaused E.takes E.failed (ending_of ended) err.old err.new
         × ((ended ≡ Some follow.Read) ↔ (link.new.read_failed ≡ true))
         × ((ended ≡ Some follow.Write) ↔ (link.new.write_failed ≡ true))
         × IfSome ended IsOfFollowing
         × (C.is_honest result.1 → C.serves store →
-        FollowsOver C.holds C.place C.reopens C.serves C.missed
+        FollowsOver C.holds C.place C.reopens C.serves C.tally
         (R.remaining link.old.reader) (R.remaining link.new.reader) link.new.reads
         (W.contents link.old.writer) (W.contents link.new.writer) limits version store result.1
         ended) }

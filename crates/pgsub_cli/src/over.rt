@@ -4,7 +4,8 @@
 //! They are generic over what a store is, since each call over a store of rows proves anew that
 //! such a store is one, and costs seconds. So callers make one such call each.
 
-ghost use Rattle.std.specs.Prelude.{◌≡◌, ◌↔◌, [], true, false, Option, Result, Some, IfSome};
+ghost use Rattle.std.specs.Prelude.{◌≡◌, ◌↔◌, ℕ, [], true, false, Option, Result, Some, IfSome};
+ghost use Rattle.pgledger.specs.Records.{tally_since};
 ghost use Rattle.pgfollow.specs.declared.fault.FollowFault.{FollowFault};
 ghost use Rattle.pgfollow.specs.declared.fault.FollowFault.TheVariants as follow;
 ghost use Rattle.pgfollow.specs.Live.{IsOfFollowingOver};
@@ -55,13 +56,13 @@ pub fn follow_reported<
     requires readable { io.old.link.read_failed ≡ false }
     requires writable { io.old.link.write_failed ≡ false }
     ensures ends { (why : Option FollowFault)
-        × (result.0 ≡ status_of_follow (C.missed result.1).count why)
+        × (result.0 ≡ status_of_follow (C.tally result.1).misses.count why)
         × TellsCaused E.takes E.failed (ending_of why) io.old.err io.new.err
         × ((why ≡ Some follow.Read) ↔ (io.new.link.read_failed ≡ true))
         × ((why ≡ Some follow.Write) ↔ (io.new.link.write_failed ≡ true))
         × IfSome why (IsOfFollowingOver (may_fail_over spool))
         × (IsReadBack spool io.new.honesty → C.is_honest result.1 → C.serves store →
-        FollowsReported C.holds C.place C.reopens C.serves C.missed L spool
+        FollowsReported C.holds C.place C.reopens C.serves C.tally L spool
         (R.remaining io.old.link.reader) (R.remaining io.new.link.reader) io.new.link.reads
         (W.contents io.old.link.writer) (W.contents io.new.link.writer) limits version store
         result.1 io.new.honesty why) }
@@ -96,19 +97,20 @@ pub fn follow_recorded<
     requires readable { io.old.link.read_failed ≡ false }
     requires writable { io.old.link.write_failed ≡ false }
     ensures ends { (why : Option FollowFault)
-        × (result.0 ≡ status_of_follow (C.missed result.1).count why)
+        × (result.0 ≡ status_of_follow (C.tally result.1).misses.count why)
         × TellsCaused E.takes E.failed (ending_of why) io.old.err io.new.err
         × ((why ≡ Some follow.Read) ↔ (io.new.link.read_failed ≡ true))
         × ((why ≡ Some follow.Write) ↔ (io.new.link.write_failed ≡ true))
         × IfSome why (IsOfFollowingOver (may_fail_over spool))
         × (IsReadBack spool io.new.honesty → C.is_honest result.1 → C.serves store →
-        FollowsReported (HoldsBoth C.holds C.place C.reach G.supposed G.begins G.keeps G.outlasts
-        G.is_stuck) (λ r. C.place r.store) (ReopensBoth C.place C.reopens G.supposed G.reopens)
-        (λ r. C.serves r.store) (λ r. C.missed r.store) L spool
+        (from : ℕ) × FollowsReported (HoldsBoth C.holds C.place C.reach C.tally G.supposed
+        G.begins G.keeps G.outlasts G.is_stuck) (λ r. C.place r.store)
+        (ReopensBoth C.place C.tally C.reopens G.supposed G.reopens)
+        (λ r. C.serves r.store) (λ r. tally_since r.from (C.tally r.store)) L spool
         (R.remaining io.old.link.reader) (R.remaining io.new.link.reader) io.new.link.reads
         (W.contents io.old.link.writer) (W.contents io.new.link.writer) limits version
-        (record { store = store; ledger = ledger })
-        (record { store = result.1; ledger = result.2 }) io.new.honesty why) }
+        (record { store = store; ledger = ledger; from = C.place store })
+        (record { store = result.1; ledger = result.2; from = from }) io.new.honesty why) }
     ensures honest { IsReadBack spool io.new.honesty → C.is_honest result.1 → C.is_honest store }
 {
     let followed = Recorded::new(store, ledger);
@@ -136,13 +138,14 @@ pub fn apply_recorded<
     out: &mut W,
     err: &mut E,
 ) -> (u8, C, G)
-    ensures ends { (ended : Result Ending RunFault) × (result.0 ≡ status_of ended)
+    ensures ends { (ended : Result Ending RunFault) × (from : ℕ) × (result.0 ≡ status_of ended)
         × AppliesOver (λ r. C.is_honest r.store) (λ r. C.serves r.store)
-        (HoldsBoth C.holds C.place C.reach G.supposed G.begins G.keeps G.outlasts G.is_stuck)
-        (λ r. C.place r.store) (ReopensBoth C.place C.reopens G.supposed G.reopens) R.gives
-        R.begins R.failed W.takes W.failed limits input
-        (record { store = store; ledger = ledger })
-        (record { store = result.1; ledger = result.2 }) ended out.old out.new
+        (HoldsBoth C.holds C.place C.reach C.tally G.supposed G.begins G.keeps G.outlasts
+        G.is_stuck) (λ r. C.place r.store)
+        (ReopensBoth C.place C.tally C.reopens G.supposed G.reopens) R.gives R.begins R.failed
+        W.takes W.failed limits input
+        (record { store = store; ledger = ledger; from = C.place store })
+        (record { store = result.1; ledger = result.2; from = from }) ended out.old out.new
         × Tells E.takes E.failed [] [] ended err.old err.new }
     ensures honest { C.is_honest result.1 → C.is_honest store }
 {

@@ -86,7 +86,7 @@ impl<C: ReplicaStore + Drop, L: Listener + Drop> Reported<C, L> {
           commits = self.old.commits;
           changes = self.old.changes;
           position = position;
-          misses = C.missed self.old.store;
+          misses = (C.tally self.old.store).misses;
         }) self.new.listener }
     {
         let settling = Settling {
@@ -112,9 +112,9 @@ impl<C: ReplicaStore + Drop, L: Listener + Drop> ReplicaStore for Reported<C, L>
 
     ghost reach = { λ s. C.reach s.store };
 
-    ghost missed = { λ s. C.missed s.store };
+    ghost tally = { λ s. C.tally s.store };
 
-    ghost stages_missed = { λ s. C.stages_missed s.store };
+    ghost stages_tally = { λ s. C.stages_tally s.store };
 
     ghost reopens = { λ s other. C.reopens s.store other.store };
 
@@ -162,7 +162,7 @@ impl<C: ReplicaStore + Drop, L: Listener + Drop> ReplicaStore for Reported<C, L>
               commits = self.old.commits;
               changes = self.old.changes;
               position = C.reach self.old.store;
-              misses = C.missed self.new.store;
+              misses = (C.tally self.new.store).misses;
             }) self.new.listener) }
         ensures untold { OnErr result (self.new.listener ≡ self.old.listener) }
         ensures settled { C.serves self.new.store → OnOk result
@@ -176,8 +176,8 @@ impl<C: ReplicaStore + Drop, L: Listener + Drop> ReplicaStore for Reported<C, L>
             self.new ≡ self.old }
         ensures fault { IfErr result IsOwnFault }
         ensures none { C.reach self.new.store ≡ C.place self.new.store }
-        ensures counts { OnOk result (C.missed self.new.store ≡ C.stages_missed self.old.store) }
-        ensures uncounted { OnErr result (C.missed self.new.store ≡ C.missed self.old.store) }
+        ensures counts { OnOk result (C.tally self.new.store ≡ C.stages_tally self.old.store) }
+        ensures uncounted { OnErr result (C.tally self.new.store ≡ C.tally self.old.store) }
         ensures served { C.serves self.new.store → C.serves self.old.store }
         ensures open { C.is_honest self.new.store →
             C.place self.old.store < C.reach self.old.store →

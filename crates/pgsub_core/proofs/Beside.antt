@@ -1,8 +1,9 @@
 -- A commit whose items were loaded beside the store: whatever leads from there to a new state leads
 -- there from the state before.
-use Rattle.std.proofs.Common.{◌≡◌, ◌⊎◌, inl, inr, ℕ, List, Result, ap, sym, subst, ◌∙◌}
+use Rattle.std.proofs.Common.{◌≡◌, ◌⊎◌, inl, inr, ℕ, List, Option, Result, ap, sym, subst, ◌∙◌}
 use Rattle.pglogical.specs.declared.message.Item.{Item}
-use Rattle.pgapply.specs.declared.misses.Misses.{Misses}
+use Rattle.pgapply.specs.declared.commit.About.{About}
+use Rattle.pgapply.specs.Tallies.{Tally}
 use Rattle.pgapply.specs.Value.{Tables}
 use Rattle.pgapply.specs.Apply.{Change}
 use Rattle.pgapply.specs.Taken.{Stays}
@@ -36,12 +37,12 @@ module _ {C : Type 0} (holds : C → Tables → Type 0) (place : C → ℕ) (old
         (refuses.why tables (held tables h));
   }
 
-  pub counts_beside : (count : C → Misses) → count loaded ≡ count old
-      → CountsCommit holds place count end items loaded confirmed relations new
-      → CountsCommit holds place count end items old confirmed relations new
-  counts_beside count counted counts tables h =
-      subst (λ p. count new ≡ commit_counted (replica_with tables p confirmed relations) end items (count old)) same
-      (subst (λ m. count new ≡ commit_counted (replica_with tables (place loaded) confirmed relations) end items m) counted
+  pub counts_beside : (about : Option About) (count : C → Tally) → count loaded ≡ count old
+      → CountsCommit holds place count end about items loaded confirmed relations new
+      → CountsCommit holds place count end about items old confirmed relations new
+  counts_beside about count counted counts tables h =
+      subst (λ p. count new ≡ commit_counted (replica_with tables p confirmed relations) end about items (count old)) same
+      (subst (λ m. count new ≡ commit_counted (replica_with tables (place loaded) confirmed relations) end about items m) counted
       (counts tables (held tables h)))
 
   -- where they can't be loaded

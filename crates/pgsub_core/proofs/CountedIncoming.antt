@@ -4,7 +4,7 @@ use Rattle.std.specs.List.{AllByRecursion}
 use Rattle.pgorder.specs.Laws.{AreMessagesFor}
 use Rattle.pgorder.specs.declared.Version.{Version}
 use Rattle.pgwire.specs.Frames.{Frame, CopyDone}
-use Rattle.pgapply.specs.declared.misses.Misses.{Misses}
+use Rattle.pgapply.specs.Tallies.{Tally}
 use Rattle.pgsub_core.specs.Server.History.{Transaction}
 use Rattle.pgsub_core.specs.Server.Stream.{Sent, messages_in}
 use Rattle.pgsub_core.specs.Machine.Replica.{Running, then_run}
@@ -23,7 +23,7 @@ use Rattle.pgsub_core.proofs.CountedMessages.{frames_run}
 
 -- These messages were taken from a disconnection on, with which the position is reached, and what
 -- they count came to what was counted.
-pub record AreCounted (now : ℤ) (old : Subscribed) (sent : List Sent) (position : ℕ) (before behind : Misses) : Type 0 where
+pub record AreCounted (now : ℤ) (old : Subscribed) (sent : List Sent) (position : ℕ) (before behind : Tally) : Type 0 where
   pub state : Subscribed
   pub takes : take_all now (disconnect old) sent ≡ Running state
   pub stands : position ≡ state.position
@@ -32,7 +32,7 @@ pub record AreCounted (now : ℤ) (old : Subscribed) (sent : List Sent) (positio
 -- CopyDone counts nothing and moves nothing
 by_done : (now : ℤ) (state last : Subscribed) (done : List Frame) → (done ≡ []) ⊎ (done ≡ CopyDone ∷ [])
     → take_frames now state done ≡ Running last
-    → (last.position ≡ state.position) × ((m : Misses) → frames_counted now state done m ≡ m)
+    → (last.position ≡ state.position) × ((m : Tally) → frames_counted now state done m ≡ m)
 by_done now state last done (inl none) h = (
   ap (λ (s : Subscribed). s.position) (sym (running (ap (take_frames now state) (sym none) ∙ h))),
   λ m. ap (λ fs. frames_counted now state fs m) none,
@@ -43,7 +43,7 @@ by_done now state last done (inr copy_done) h = (
 )
 
 module _ (reads : MessagesAreReadAgain) (now : ℤ) where
-  frames_count : (old last : Subscribed) (sent : List Sent) (fs : List Frame) (position : ℕ) (before behind : Misses)
+  frames_count : (old last : Subscribed) (sent : List Sent) (fs : List Frame) (position : ℕ) (before behind : Tally)
       → AllByRecursion IsWireSent sent → AreMessagesFor false (messages_in sent) → AreFramesOf sent fs
       → take_frames now (disconnect old) fs ≡ Running last → position ≡ last.position
       → behind ≡ frames_counted now (disconnect old) fs before → AreCounted now old sent position before behind
@@ -68,7 +68,7 @@ module _ (reads : MessagesAreReadAgain) (now : ℤ) where
 
   -- a front of it
   pub front_counted : (v : Version) (history : List Transaction) (s : ℕ) (bytes : List ℕ) (complete : List Sent) (old : Subscribed)
-      (position : ℕ) (before behind : Misses) → IsIncoming v history s bytes complete
+      (position : ℕ) (before behind : Tally) → IsIncoming v history s bytes complete
       → IsCountedFront now (disconnect old) bytes position before behind
       → (front later : List Sent) × (complete ≡ front ++ later) × AreCounted now old front position before behind
   front_counted v history s bytes complete old position before behind come c =
@@ -81,7 +81,7 @@ module _ (reads : MessagesAreReadAgain) (now : ℤ) where
 
   -- or all
   pub whole_counted : (v : Version) (history : List Transaction) (s : ℕ) (bytes : List ℕ) (complete : List Sent) (old : Subscribed)
-      (position : ℕ) (before behind : Misses) → IsIncoming v history s bytes complete
+      (position : ℕ) (before behind : Tally) → IsIncoming v history s bytes complete
       → IsCountedWhole now (disconnect old) bytes position before behind → AreCounted now old complete position before behind
   whole_counted v history s bytes complete old position before behind come c =
       let is = incoming_frames v history s (disconnect old).max_frame bytes complete c.fs c.rest come c.deframed in

@@ -10,7 +10,7 @@ use Rattle.pgorder.specs.Steps.{OrderState}
 use Rattle.pgwire.specs.Frames.{CopyData}
 use Rattle.pgwire.specs.Payloads.{payload}
 use Rattle.pgwire.proofs.Messages.{payload_again}
-use Rattle.pgapply.specs.declared.misses.Misses.{Misses}
+use Rattle.pgapply.specs.Tallies.{Tally}
 use Rattle.pgsub_core.specs.Server.Stream.{Sent, Data, Keepalive, messages_in}
 use Rattle.pgsub_core.specs.Machine.Replica.{Running}
 use Rattle.pgsub_core.specs.Server.Sessions.{server_message, frames_of, IsWireSent}
@@ -23,10 +23,10 @@ use Rattle.pgsub_core.proofs.Steps.{goes_through, takes_one}
 use Rattle.pgsub_core.proofs.CountedRuns.{then_count, sent_counted, run_counted}
 
 -- one message, and what comes behind it
-one_and : (now : ℤ) (old mid : Subscribed) (x : Sent) (sent : List Sent) (m : Misses)
+one_and : (now : ℤ) (old mid : Subscribed) (x : Sent) (sent : List Sent) (m : Tally)
     → take_frame now old (CopyData (payload (server_message x))) ≡ Running mid → take now old x ≡ Running mid
     → frame_counted old (CopyData (payload (server_message x))) m ≡ sent_counted old.version (apply_state_of old) x m
-    → ((k : Misses) → frames_counted now mid (frames_of sent) k ≡ run_counted mid.version (apply_state_of mid) sent k)
+    → ((k : Tally) → frames_counted now mid (frames_of sent) k ≡ run_counted mid.version (apply_state_of mid) sent k)
     → frames_counted now old (frames_of (x ∷ sent)) m ≡ run_counted old.version (apply_state_of old) (x ∷ sent) m
 one_and now old mid x sent m frame takes counts rest =
     let one = takes_one now old mid x takes in
@@ -42,7 +42,7 @@ module _ (reads : (in_block : Bool) (m : Message) → IsWireMessage m → IsMess
     → message_at in_block (message_spelling m) ≡ Ok m) (now : ℤ) where
   pub frames_run : (sent : List Sent) (old new : Subscribed) → AllByRecursion IsWireSent sent
       → AreMessagesFor (is_in_block old.order.context) (messages_in sent) → take_all now old sent ≡ Running new
-      → (m : Misses) → frames_counted now old (frames_of sent) m ≡ run_counted old.version (apply_state_of old) sent m
+      → (m : Tally) → frames_counted now old (frames_of sent) m ≡ run_counted old.version (apply_state_of old) sent m
   frames_run [] old new fits for h m = refl
   frames_run (Data start end clock message ∷ sent) old new fits for h m =
       let x : Sent = Data start end clock message in

@@ -10,7 +10,7 @@ use Rattle.pgwire.specs.Calls.{Feed, Release, Leads}
 use Rattle.pgwire.specs.declared.fault.WireFault.{WireFault}
 use Rattle.pgwire.proofs.Runs.{counted, frames_of_the_bytes}
 use Rattle.std.specs.Prelude.{Option}
-use Rattle.pgapply.specs.declared.misses.Misses.{Misses}
+use Rattle.pgapply.specs.Tallies.{Tally}
 use Rattle.pgapply.specs.Value.{Tables}
 use Rattle.pgsub_core.specs.declared.fault.Fault.{Fault}
 use Rattle.pgsub_core.specs.Machine.Replica.{Outcome, Running, Stopped, then_run}
@@ -29,11 +29,11 @@ use Rattle.pgsub_core.proofs.FeedSteps.{stands_or_waits, released_waits}
 
 -- ---- one frame more
 
-behind_same : (o : Outcome Subscribed Fault) (m : Misses) → counted_behind o (λ next. m) m ≡ m
+behind_same : (o : Outcome Subscribed Fault) (m : Tally) → counted_behind o (λ next. m) m ≡ m
 behind_same (Running next) m = refl
 behind_same (Stopped s fault) m = refl
 
-behind_more : (now : ℤ) (gs : List Frame) (f : Frame) (s' : Subscribed) (m : Misses) (o : Outcome Subscribed Fault)
+behind_more : (now : ℤ) (gs : List Frame) (f : Frame) (s' : Subscribed) (m : Tally) (o : Outcome Subscribed Fault)
     → ((next : Subscribed) → take_frames now next gs ≡ Running s'
     → frames_counted now next (gs ++ f ∷ []) m ≡ frame_counted s' f (frames_counted now next gs m))
     → then_run o (λ next. take_frames now next gs) ≡ Running s'
@@ -42,7 +42,7 @@ behind_more : (now : ℤ) (gs : List Frame) (f : Frame) (s' : Subscribed) (m : M
 behind_more now gs f s' m (Running next) more h = more next h
 behind_more now gs f s' m (Stopped x fault) more h = absurd (let bad : Stopped x fault ≡ Running s' = h in cc)
 
-pub frames_then : (now : ℤ) (fs : List Frame) (s : Subscribed) (f : Frame) (s' : Subscribed) (m : Misses)
+pub frames_then : (now : ℤ) (fs : List Frame) (s : Subscribed) (f : Frame) (s' : Subscribed) (m : Tally)
     → take_frames now s fs ≡ Running s' → frames_counted now s (fs ++ f ∷ []) m ≡ frame_counted s' f (frames_counted now s fs m)
 frames_then now [] s f s' m h =
     behind_same (take_frame now s f) (frame_counted s f m) ∙ ap (λ (x : Subscribed). frame_counted x f m) (let same : s ≡ s' = cc in same)
@@ -50,7 +50,7 @@ frames_then now (g ∷ gs) s f s' m h =
     behind_more now gs f s' (frame_counted s g m) (take_frame now s g)
     (λ next more. frames_then now gs next f s' (frame_counted s g m) more) h
 
-module _ {C : Type 0} (serves : C → Type 0) (holds : C → Tables → Type 0) (place : C → ℕ) (count : C → Misses) (now : ℤ) where
+module _ {C : Type 0} (serves : C → Type 0) (holds : C → Tables → Type 0) (place : C → ℕ) (count : C → Tally) (now : ℤ) where
   pub counts_then : (fs : List Frame) (f : Frame) (a₀ a a' : Applied C) → FramesGo holds place now fs a₀ a
       → CountsBy holds place count (λ s. frames_counted now s fs) a₀ a → CountsBy holds place count (λ s. frame_counted s f) a a'
       → CountsBy holds place count (λ s. frames_counted now s (fs ++ f ∷ [])) a₀ a'
@@ -228,7 +228,7 @@ module _ {C : Type 0} (serves : C → Type 0) (holds : C → Tables → Type 0) 
       }
 
 -- all that was counted of a piece is a front of itself
-pub is_front : (now : ℤ) (old : Subscribed) (piece : List ℕ) (position : ℕ) (before behind : Misses)
+pub is_front : (now : ℤ) (old : Subscribed) (piece : List ℕ) (position : ℕ) (before behind : Tally)
     → IsCountedWhole now old piece position before behind → IsCountedFront now old piece position before behind
 is_front now old piece position before behind w =
     record {
@@ -243,7 +243,7 @@ is_front now old piece position before behind w =
     }
 
 -- all that was counted of a front of a piece
-pub whole_front : (now : ℤ) (old : Subscribed) (piece : List ℕ) (n position : ℕ) (before behind : Misses)
+pub whole_front : (now : ℤ) (old : Subscribed) (piece : List ℕ) (n position : ℕ) (before behind : Tally)
     → IsCountedWhole now old (take n piece) position before behind → IsCountedFront now old piece position before behind
 whole_front now old piece n position before behind w = record {
   fs = w.fs;
@@ -261,14 +261,14 @@ whole_front now old piece n position before behind w = record {
 }
 
 -- a piece that was fed to its parts
-pub feeds_counted : {C : Type 0} (holds : C → Tables → Type 0) (place : C → ℕ) (count : C → Misses) (now : ℤ) (piece : List ℕ)
+pub feeds_counted : {C : Type 0} (holds : C → Tables → Type 0) (place : C → ℕ) (count : C → Tally) (now : ℤ) (piece : List ℕ)
     (d₀ : Deframed) (a₀ : Applied C) (closed : Bool) (old new : SubscriberValue C)
     → record { applied = a₀; framing = framing_of d₀ closed } ≡ old → FeedCounts holds place count now d₀ a₀ piece new.applied.store
     → FeedsCounted holds place count now old piece new
 feeds_counted {C} holds place count now piece d₀ a₀ closed old new same fed =
     subst (λ (x : SubscriberValue C). FeedsCounted holds place count now x piece new) same (λ tables h. fed closed tables h)
 
-pub feeds_counted_front : {C : Type 0} (holds : C → Tables → Type 0) (place : C → ℕ) (count : C → Misses) (now : ℤ) (piece : List ℕ)
+pub feeds_counted_front : {C : Type 0} (holds : C → Tables → Type 0) (place : C → ℕ) (count : C → Tally) (now : ℤ) (piece : List ℕ)
     (d₀ : Deframed) (a₀ : Applied C) (closed : Bool) (old new : SubscriberValue C)
     → record { applied = a₀; framing = framing_of d₀ closed } ≡ old → FeedCountsFront holds place count now d₀ a₀ piece new.applied.store
     → FeedsCountedFront holds place count now old piece new

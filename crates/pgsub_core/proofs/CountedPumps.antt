@@ -3,7 +3,7 @@ use Rattle.std.proofs.Common.{◌≡◌, ◌++◌, ◌∷◌, ◌+◌, ℕ, ℤ,
 use Rattle.std.proofs.Common.{append-nil, length-append, arith}
 use Rattle.std.proofs.lemmas.List.Elements.{All-nil}
 use Rattle.std.specs.Io.KnownBytes.{Consumes, Keeps}
-use Rattle.pgapply.specs.declared.misses.Misses.{Misses}
+use Rattle.pgapply.specs.Tallies.{Tally}
 use Rattle.pgapply.specs.Value.{Tables}
 use Rattle.pgsub_core.specs.declared.fault.Fault.{Fault}
 use Rattle.pgsub_core.specs.Subscriber.SubscriberValue.{SubscriberValue, seen, Feeds, FeedsUntil}
@@ -14,7 +14,7 @@ use Rattle.pgsub_core.proofs.Pieces.{counted_pieces, front_pieces}
 use Rattle.pgsub_core.proofs.Pumped.{IsPiece, nothing_read, read_on, kept_on, read_more, bytes_more}
 use Rattle.pgsub_core.proofs.Pumped.{pieces_and, pieces_stop}
 
-module _ {C : Type 0} (holds : C → Tables → Type 0) (place : C → ℕ) (count : C → Misses) (now : ℤ) where
+module _ {C : Type 0} (holds : C → Tables → Type 0) (place : C → ℕ) (count : C → Tally) (now : ℤ) where
   counted_and : (old mid new : SubscriberValue C) (bytes piece : List ℕ) → Feeds holds place now old bytes mid
       → FeedsCounted holds place count now old bytes mid → FeedsCounted holds place count now mid piece new
       → FeedsCounted holds place count now old (bytes ++ piece) new

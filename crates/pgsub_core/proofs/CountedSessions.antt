@@ -2,7 +2,7 @@
 use Rattle.std.proofs.Common.{◌≡◌, ◌++◌, ◌<◌, ◌+◌, ◌∷◌, inl, inr, ℕ, ℤ, List, [], take, drop}
 use Rattle.std.proofs.Common.{get_or, length, refl, sym, subst, arith}
 use Rattle.std.specs.List.{flat_map}
-use Rattle.pgapply.specs.declared.misses.Misses.{Misses}
+use Rattle.pgapply.specs.Tallies.{Tally}
 use Rattle.pgapply.specs.Value.{Tables}
 use Rattle.pgwire.specs.declared.session.Session.{Session}
 use Rattle.pgsub_core.specs.Subscriber.Subscribed.{Subscribed, disconnect, session_bytes, bytes_of}
@@ -17,7 +17,7 @@ use Rattle.pgsub_core.proofs.Pieces.{counted_pieces, front_pieces, front_stands}
 use Rattle.pgsub_core.proofs.FollowSteps.{joined_more, joined_all, sessions_more, sessions_all}
 
 -- nothing is counted of no bytes
-pub nothing_counted : (now : ℤ) (s : Subscribed) (m : Misses) → IsCountedWhole now (disconnect s) [] s.position m m
+pub nothing_counted : (now : ℤ) (s : Subscribed) (m : Tally) → IsCountedWhole now (disconnect s) [] s.position m m
 nothing_counted now s m = record {
   fs = [];
   rest = [];
@@ -34,7 +34,7 @@ nothing_counted now s m = record {
 }
 
 -- one session more
-pub sessions_and : (now : ℤ) (sessions : List (List ℕ)) (bytes : List ℕ) (old mid new : Subscribed) (before between behind : Misses)
+pub sessions_and : (now : ℤ) (sessions : List (List ℕ)) (bytes : List ℕ) (old mid new : Subscribed) (before between behind : Tally)
     → AreCountedWhole now old sessions mid before between → IsFedWhole now (disconnect mid) bytes new
     → IsCountedWhole now (disconnect mid) bytes new.position between behind
     → AreCountedWhole now old (sessions ++ bytes ∷ []) new before behind
@@ -42,7 +42,7 @@ sessions_and now [] bytes old mid new before between behind so fed counts = (
   new,
   behind,
   subst (λ (s : Subscribed). IsFedWhole now (disconnect s) bytes new) so.0 fed,
-  subst (λ (m : Misses). IsCountedWhole now (disconnect old) bytes new.position m behind) so.1
+  subst (λ (m : Tally). IsCountedWhole now (disconnect old) bytes new.position m behind) so.1
       (subst (λ (s : Subscribed). IsCountedWhole now (disconnect s) bytes new.position between behind) so.0 counts),
   (refl, refl),
 )
@@ -51,16 +51,16 @@ sessions_and now (first ∷ sessions) bytes old mid new before between behind so
 
 -- or a front of one more, whatever sessions would come
 pub sessions_then : (now : ℤ) (sessions : List (List ℕ)) (bytes : List ℕ) (later : List (List ℕ)) (old mid : Subscribed) (position : ℕ)
-    (before between behind : Misses) → AreCountedWhole now old sessions mid before between
+    (before between behind : Tally) → AreCountedWhole now old sessions mid before between
     → IsCountedFront now (disconnect mid) bytes position between behind
     → AreCountedFront now old (sessions ++ bytes ∷ later) position before behind
 sessions_then now [] bytes later old mid position before between behind so counts =
-    inl (subst (λ (m : Misses). IsCountedFront now (disconnect old) bytes position m behind) so.1
+    inl (subst (λ (m : Tally). IsCountedFront now (disconnect old) bytes position m behind) so.1
     (subst (λ (s : Subscribed). IsCountedFront now (disconnect s) bytes position between behind) so.0 counts))
 sessions_then now (first ∷ sessions) bytes later old mid position before between behind so counts =
     inr (so.0, so.1, so.2, so.3, sessions_then now sessions bytes later so.0 mid position so.1 between behind so.4 counts)
 
-module _ {C : Type 0} (holds : C → Tables → Type 0) (place : C → ℕ) (count : C → Misses) (now : ℤ) where
+module _ {C : Type 0} (holds : C → Tables → Type 0) (place : C → ℕ) (count : C → Tally) (now : ℤ) where
   pub counts_start : (old new : SubscriberValue C) → new.applied.store ≡ old.applied.store → CountsSession holds place count now old [] new
   counts_start old new store tables h =
       let s = seen place old tables in

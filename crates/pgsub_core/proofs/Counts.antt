@@ -1,4 +1,4 @@
--- How many changes that find no row are counted, from the commit to the frame.
+-- What is counted, from the commit to the frame.
 use Rattle.std.proofs.Common.{◌≡◌, ℕ, ℤ, List, Ok, ap, subst, ◌∙◌}
 use Rattle.pglogical.specs.Reading.{message_at}
 use Rattle.pglogical.specs.declared.message.Message.{Message}
@@ -8,16 +8,16 @@ use Rattle.pgorder.specs.declared.Version.{Version}
 use Rattle.pgorder.specs.declared.Event.{Event}
 use Rattle.pgwire.specs.Frames.{CopyData}
 use Rattle.pgwire.specs.Payloads.{XLogData, Keepalive, payload_at}
-use Rattle.pgapply.specs.declared.misses.Misses.{Misses}
+use Rattle.pgapply.specs.Tallies.{Tally}
 use Rattle.pgapply.specs.Value.{Tables}
 use Rattle.pgsub_core.specs.Subscriber.Applied.{Applied}
 use Rattle.pgsub_core.specs.Machine.Counted.{message_counted, decoded_counted, frame_counted}
 use Rattle.pgsub_core.specs.Machine.Counted.{CountsEvent, CountsBy}
 
-module _ {C : Type 0} (holds : C → Tables → Type 0) (place : C → ℕ) (count : C → Misses) where
+module _ {C : Type 0} (holds : C → Tables → Type 0) (place : C → ℕ) (count : C → Tally) where
   pub counts_message : (m : Message) (v a : Applied C) → v ≡ a → (o : OrderState) (version : Version) (e : Event)
       → order_step v.version v.order m ≡ Ok (o, e) → (w ev : Applied C) → w ≡ ev
-      → CountsEvent holds place count e (record v { order = o; version = version }) ev → (received : ℕ)
+      → CountsEvent holds place count m e (record v { order = o; version = version }) ev → (received : ℕ)
       → CountsBy holds place count (λ s. message_counted s m) a (record w { received = received })
   counts_message m v a same o version e is w ev seen counts received =
       subst (λ (x : Applied C). CountsBy holds place count (λ s. message_counted s m) x (record w { received = received })) same

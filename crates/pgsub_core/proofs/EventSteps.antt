@@ -13,7 +13,7 @@ use Rattle.pgsub_core.specs.declared.fault.Fault.{Fault}
 use Rattle.pgsub_core.specs.Server.Stream.{Kind, BeginsPair, CommitsPair, Holds, StartsBlock}
 use Rattle.pgsub_core.specs.Server.Stream.{StopsBlock, CommitsStream, AbortsStream, ChangesNothing}
 use Rattle.pgsub_core.specs.Machine.Replica.{Replica, Running, on_commit, Outcome, GoesOrStops}
-use Rattle.pgsub_core.specs.Machine.Replica.{IsOfStore, Halt, Stopped}
+use Rattle.pgsub_core.specs.Machine.Replica.{IsOfStore, Halt, Stopped, RelationCache}
 use Rattle.pgsub_core.specs.Machine.ApplyState.{ApplyState, ApplyResult, pushed, committed}
 use Rattle.pgsub_core.specs.Machine.ApplyState.{on_event}
 use Rattle.pgsub_core.specs.Subscriber.Causes.{Cause, OutOfMemory, StatementRefused, HeaderTooLarge}
@@ -51,7 +51,7 @@ module _ {C : Type 0} (holds : C → Tables → Type 0) (place : C → ℕ) (m :
     abbrev items : List Item
     items = items_of (held_of a.held xid)
 
-    pub goes_commit : StaysBeside a b → b.held ≡ map.remove a.held xid
+    goes_commit : StaysBeside a b → b.held ≡ map.remove a.held xid
         → Commits holds place end items a.store a.confirmed a.relations b.store b.confirmed b.relations → EventGoes holds place m e a b
     goes_commit beside held commits tables h =
         let done = commits tables h in (
@@ -82,10 +82,42 @@ module _ {C : Type 0} (holds : C → Tables → Type 0) (place : C → ℕ) (m :
         inl (_, h.0, is (state_with place a tables) ∙ ap (committed (state_with place a tables) a.order xid) h.1, h.2)
     stops_by limit tables f ends NeverAnswered h = absurd h
 
-    pub stops_commit : event_end e ≡ Some end → (f : Fault) → RefusesCommit holds place end items a.store a.confirmed a.relations b.store f
+    stops_commit : event_end e ≡ Some end → (f : Fault) → RefusesCommit holds place end items a.store a.confirmed a.relations b.store f
         → EventStops holds place m e a b f
     stops_commit ends f refuses =
         record { stays = refuses.stays; why = λ tables h. stops_by a.limit tables f ends (cause f) (refuses.why tables h) }
+
+  -- a commit, as the fields of what takes it tell of it
+  module _ (v a : Applied C) (same : v ≡ a) (end xid : ℕ)
+      (is : (st : ApplyState) → on_event st m st.order e
+      ≡ committed st st.order xid (on_commit st.replica end (items_of (held_of st.held xid)))) where
+    pub goes_committed : (store : C) (confirmed : ℕ) (held : HeldMap) (relations : RelationCache) → held ≡ map.remove v.held xid
+        → Commits holds place end (items_of (held_of v.held xid)) v.store v.confirmed v.relations store confirmed relations
+        → (tables : Tables) → holds a.store tables
+        → (tables' : Tables) × holds store tables'
+        × (on_event (state_with place a tables) m a.order e
+        ≡ Running (record { order = v.order; held = held; replica = replica_with tables' (place store) confirmed relations }))
+    goes_committed store confirmed held relations removed commits =
+        let b : Applied C = record v { store = store; confirmed = confirmed; held = held; relations = relations } in
+        let beside : StaysBeside v b = record { received = refl; version = refl; limit = refl; order = refl; replies = refl } in
+        subst (λ (x : Applied C).
+        (tables : Tables) → holds x.store tables
+        → (tables' : Tables) × holds store tables'
+        × (on_event (state_with place x tables) m x.order e
+        ≡ Running (record { order = v.order; held = held; replica = replica_with tables' (place store) confirmed relations }))) same
+        (goes_commit v b end xid is beside removed commits)
+
+    pub stops_committed : event_end e ≡ Some end → (b : Applied C) (f : Fault)
+        → RefusesCommit holds place end (items_of (held_of v.held xid)) v.store v.confirmed v.relations b.store f
+        → EventStops holds place m e a b f
+    stops_committed ends b f refuses =
+        subst (λ (x : Applied C). EventStops holds place m e x b f) same (stops_commit v b end xid is ends f refuses)
+
+    pub stops_uncommitted : event_end e ≡ Some end → (f : Fault)
+        → RefusesCommit holds place end (items_of (held_of v.held xid)) v.store v.confirmed v.relations v.store f
+        → EventStops holds place m e a a f
+    stops_uncommitted ends f refuses =
+        subst (λ (x : Applied C). EventStops holds place m e x x f) same (stops_commit v v end xid is ends f refuses)
 
 -- ---- of which transactions items are held then
 
@@ -98,10 +130,10 @@ pub pushed_keys : (held : HeldMap) (xid subxid : ℕ) (k : Kind) → map.contain
     → map.contains_key (pushed held xid subxid k) x ≡ ((xid == x) || map.contains_key held x)
 pushed_keys held xid subxid (Holds l item) there x = key_inserted held xid _ x
 pushed_keys held xid subxid (BeginsPair y) there x = kept_key held xid x there (xid == x) refl
-pushed_keys held xid subxid (CommitsPair lsn end) there x = kept_key held xid x there (xid == x) refl
+pushed_keys held xid subxid (CommitsPair lsn end time) there x = kept_key held xid x there (xid == x) refl
 pushed_keys held xid subxid (StartsBlock y first) there x = kept_key held xid x there (xid == x) refl
 pushed_keys held xid subxid StopsBlock there x = kept_key held xid x there (xid == x) refl
-pushed_keys held xid subxid (CommitsStream y lsn end) there x = kept_key held xid x there (xid == x) refl
+pushed_keys held xid subxid (CommitsStream y lsn end time) there x = kept_key held xid x there (xid == x) refl
 pushed_keys held xid subxid (AbortsStream y l) there x = kept_key held xid x there (xid == x) refl
 pushed_keys held xid subxid ChangesNothing there x = kept_key held xid x there (xid == x) refl
 

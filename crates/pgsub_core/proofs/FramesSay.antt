@@ -40,11 +40,11 @@ over d (Stopped s why) = Stopped (with_done d s) why
 
 passes_over : (d : Bool) (s : Subscribed) (k : Kind) → passes_limit (with_done d s) k ≡ passes_limit s k
 passes_over d s (BeginsPair xid) = refl
-passes_over d s (CommitsPair lsn end) = refl
+passes_over d s (CommitsPair lsn end time) = refl
 passes_over d s (Holds subxid item) = refl
 passes_over d s (StartsBlock xid first) = refl
 passes_over d s StopsBlock = refl
-passes_over d s (CommitsStream xid lsn end) = refl
+passes_over d s (CommitsStream xid lsn end time) = refl
 passes_over d s (AbortsStream xid subxid) = refl
 passes_over d s ChangesNothing = refl
 

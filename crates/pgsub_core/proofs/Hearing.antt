@@ -1,7 +1,7 @@
 -- What the store hears beside its tables: whatever leads from there to a new state leads there from
 -- the state before.
 use Rattle.std.proofs.Common.{◌≡◌, ℕ, ℤ, ap, subst, ◌∙◌}
-use Rattle.pgapply.specs.declared.misses.Misses.{Misses}
+use Rattle.pgapply.specs.Tallies.{Tally}
 use Rattle.pgapply.specs.Value.{Tables}
 use Rattle.pgapply.specs.Taken.{Stays}
 use Rattle.pgsub_core.specs.declared.fault.Fault.{Fault}
@@ -49,7 +49,7 @@ module _ {C : Type 0} (holds : C → Tables → Type 0) (place : C → ℕ) (old
         (stops.why framing tables (held tables h));
   }
 
-  pub counts_heard : (count : C → Misses) (by : Subscribed → Misses → Misses) (new : Applied C)
+  pub counts_heard : (count : C → Tally) (by : Subscribed → Tally → Tally) (new : Applied C)
       → count heard.store ≡ count old.store → CountsBy holds place count by heard new → CountsBy holds place count by old new
   counts_heard count by new counted counts framing tables h =
       counts framing tables (held tables h) ∙ (λ i. by (seen framing tables i) (counted i))

@@ -31,12 +31,12 @@ truncate = item.Truncate 3 (16384 ∷ 16385 ∷ [])
 abbrev streamed_work : Work
 streamed_work = Subtransaction 5 (Changed truncate (t ∷ w ∷ []) Nothing) (RolledBack 6 (9 ∷ []) Nothing)
 
--- xids 10, 10 and 0; each commit right behind the one before
+-- xids 10, 10 and 0; each commit right behind the one before, at a time of its own
 abbrev legal_history : List Transaction
 legal_history =
-    record { xid = 10; work = Nothing; lsn = 100; end = 120 }
-    ∷ record { xid = 10; work = Changed (insert_t 49 97) (t ∷ []) Nothing; lsn = 120; end = 160 }
-    ∷ record { xid = 0; work = streamed_work; lsn = 160; end = 200 } ∷ []
+    record { xid = 10; work = Nothing; lsn = 100; end = 120; time = pos 4 }
+    ∷ record { xid = 10; work = Changed (insert_t 49 97) (t ∷ []) Nothing; lsn = 120; end = 160; time = pos 5 }
+    ∷ record { xid = 0; work = streamed_work; lsn = 160; end = 200; time = pos 6 } ∷ []
 
 legal_is_history : IsHistory legal_history
 legal_is_history = (
@@ -72,7 +72,7 @@ pair_inner = message.Origin 8 [] ∷ alone (item.Relation t) ∷ alone (insert_t
 abbrev legal_parts : List StreamPart
 legal_parts =
     Abort 77 78 ∷ LogicalMessage false 50 [] [] ∷ Block 0 true inner ∷ Abort 0 6 ∷ Abort 0 6 ∷ Abort 0 9
-    ∷ Pair 120 (pos 0) 10 pair_inner 160 (pos 0) ∷ StreamEnd 0 160 200 (pos 0) ∷ Abort 0 0 ∷ []
+    ∷ Pair 120 (pos 0) 10 pair_inner 160 (pos 5) ∷ StreamEnd 0 160 200 (pos 6) ∷ Abort 0 0 ∷ []
 
 abbrev legal : List Sent
 legal =
@@ -82,8 +82,8 @@ legal =
     ∷ sent (under 5 (item.Relation w)) ∷ sent (under 5 truncate) ∷ sent (under 6 (insert_t 50 98)) ∷ sent message.StreamStop
     ∷ sent (message.StreamAbort 0 6) ∷ sent (message.StreamAbort 0 6) ∷ sent (message.StreamAbort 0 9)
     ∷ sent (message.Begin 120 (pos 0) 10) ∷ sent (message.Origin 8 []) ∷ sent (alone (item.Relation t)) ∷ Keepalive 159 (pos 0) false
-    ∷ sent (alone (insert_t 49 97)) ∷ sent (message.Commit 120 160 (pos 0))
-    ∷ Keepalive 199 (pos 0) true ∷ sent (message.StreamCommit 0 160 200 (pos 0)) ∷ sent (message.StreamAbort 0 0)
+    ∷ sent (alone (insert_t 49 97)) ∷ sent (message.Commit 120 160 (pos 5))
+    ∷ Keepalive 199 (pos 0) true ∷ sent (message.StreamCommit 0 160 200 (pos 6)) ∷ sent (message.StreamAbort 0 0)
     ∷ Keepalive 5000 (pos 0) false ∷ []
 
 abbrev of_sub : List StreamedItem
@@ -130,15 +130,15 @@ legal_delivered = record {
     (
       ((λ changes. absurd (changes refl)), ((λ _. omega arith), ((λ _. omega arith), tt))),
       (
-        record { xid = 10; work = Nothing; lsn = 100; end = 120 } ∷ [],
+        record { xid = 10; work = Nothing; lsn = 100; end = 120; time = pos 4 } ∷ [],
         _,
         _,
         item.Relation t ∷ insert_t 49 97 ∷ [],
         refl,
         (refl, tt),
-        (refl, refl, refl, refl),
+        (refl, refl, refl, refl, refl),
         refl,
-        (((λ _. omega arith), tt), ([], _, [], surviving_of_sub, refl, tt, (refl, refl, refl, legal_streamed), refl, (tt, tt))),
+        (((λ _. omega arith), tt), ([], _, [], surviving_of_sub, refl, tt, (refl, refl, refl, refl, legal_streamed), refl, (tt, tt))),
       ),
     ),
   );

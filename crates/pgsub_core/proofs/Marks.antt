@@ -24,7 +24,7 @@ use Rattle.pgsub_core.specs.Subscriber.Applied.{Applied, Framing, subscribed, Is
 use Rattle.pgsub_core.specs.Calls.Framing.{framing_of, framing_behind, FramesGo, FeedGoes}
 use Rattle.pgsub_core.specs.Calls.Framing.{FeedStops, IsFedTo}
 use Rattle.pgsub_core.specs.Subscriber.Crashing.{LeavesOldOr, Over, StandsAs}
-use Rattle.pgapply.specs.declared.misses.Misses.{Misses}
+use Rattle.pgapply.specs.Tallies.{Tally}
 use Rattle.pgsub_core.specs.Machine.Counted.{IsCountedWhole, IsCountedFront, FeedCounts}
 use Rattle.pgsub_core.specs.Machine.Counted.{FeedCountsFront}
 use Rattle.pgsub_core.specs.Machine.Faults.{IsReadFault, IsOfFeedingOver}
@@ -247,24 +247,24 @@ module _ {C : Type 0} (holds : C → Tables → Type 0) (place : C → ℕ) (sta
         )
 
     -- what was counted of what was staged
-    module _ (staged missed : C → Misses) (piece : List ℕ) (a b : C) (from : staged s ≡ missed old.store) (to : missed b ≡ staged a)
+    module _ (staged tally : C → Tally) (piece : List ℕ) (a b : C) (from : staged s ≡ tally old.store) (to : tally b ≡ staged a)
         (stands : place b ≡ reach a) where
-      pub settled_counts : FeedCounts stages reach staged now d₀ start piece a → FeedCounts holds place missed now d₀ old piece b
+      pub settled_counts : FeedCounts stages reach staged now d₀ start piece a → FeedCounts holds place tally now d₀ old piece b
       settled_counts counts closed tables h =
           let new : Subscribed = subscribed reach (framing_of d₀ closed) start tables in
-          subst (λ (o : Subscribed). IsCountedWhole now o piece (place b) (missed old.store) (missed b))
+          subst (λ (o : Subscribed). IsCountedWhole now o piece (place b) (tally old.store) (tally b))
           (as_old (framing_of d₀ closed) tables)
-          (subst (λ (m : Misses). IsCountedWhole now new piece (place b) m (missed b)) from
+          (subst (λ (m : Tally). IsCountedWhole now new piece (place b) m (tally b)) from
           (subst (IsCountedWhole now new piece (place b) (staged s)) (sym to)
           (subst (λ (p : ℕ). IsCountedWhole now new piece p (staged s) (staged a)) (sym stands)
           (counts closed tables (begins tables h)))))
 
-      pub settled_front : FeedCountsFront stages reach staged now d₀ start piece a → FeedCountsFront holds place missed now d₀ old piece b
+      pub settled_front : FeedCountsFront stages reach staged now d₀ start piece a → FeedCountsFront holds place tally now d₀ old piece b
       settled_front counts closed tables h =
           let new : Subscribed = subscribed reach (framing_of d₀ closed) start tables in
-          subst (λ (o : Subscribed). IsCountedFront now o piece (place b) (missed old.store) (missed b))
+          subst (λ (o : Subscribed). IsCountedFront now o piece (place b) (tally old.store) (tally b))
           (as_old (framing_of d₀ closed) tables)
-          (subst (λ (m : Misses). IsCountedFront now new piece (place b) m (missed b)) from
+          (subst (λ (m : Tally). IsCountedFront now new piece (place b) m (tally b)) from
           (subst (IsCountedFront now new piece (place b) (staged s)) (sym to)
           (subst (λ (p : ℕ). IsCountedFront now new piece p (staged s) (staged a)) (sym stands)
           (counts closed tables (begins tables h)))))

@@ -205,11 +205,11 @@ module _ (st : ApplyState) (o : OrderState) (m : Message) where
 -- a commit holds no item
 commit_fits : (s : Subscribed) (k : Kind) (end : ℕ) → end_by_kind k ≡ Some end → passes_limit s k ≡ false
 commit_fits s (BeginsPair xid) end h = refl
-commit_fits s (CommitsPair lsn last) end h = refl
+commit_fits s (CommitsPair lsn last time) end h = refl
 commit_fits s (Holds subxid item) end h = absurd (cc)
 commit_fits s (StartsBlock xid first) end h = refl
 commit_fits s StopsBlock end h = refl
-commit_fits s (CommitsStream xid lsn last) end h = refl
+commit_fits s (CommitsStream xid lsn last time) end h = refl
 commit_fits s (AbortsStream xid subxid) end h = refl
 commit_fits s ChangesNothing end h = refl
 

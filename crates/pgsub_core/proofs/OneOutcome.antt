@@ -77,6 +77,7 @@ spool_settles spool.Memory = (λ e. cc, λ e. cc)
 spool_settles spool.NotWritten = (λ e. cc, λ e. cc)
 spool_settles spool.NoRoom = (λ e. cc, λ e. cc)
 spool_settles spool.NotRead = (λ e. cc, λ e. cc)
+spool_settles spool.TooManyOpen = (λ e. cc, λ e. cc)
 
 store_settles : (k : StoreFault) → k ≢ store.Refused → (store_cause k ≡ OutOfMemory → ⊥) × (store_cause k ≡ StatementRefused → ⊥)
 store_settles store.Clash other = (λ e. cc, λ e. cc)

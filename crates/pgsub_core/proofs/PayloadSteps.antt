@@ -1,8 +1,15 @@
 -- The payload of a frame.
 use Rattle.std.proofs.Common.{◌≡◌, ℕ, ℤ, List, [], ◌∷◌, ◌++◌, Bool, true, false, cond, max, Ok}
 use Rattle.std.proofs.Common.{refl, ap, subst}
+use Rattle.std.specs.List.{AllByRecursion}
 use Rattle.pglogical.specs.Reading.{message_at}
+use Rattle.pglogical.specs.declared.message.Column.{Column}
+use Rattle.pglogical.specs.declared.message.Item.{Item}
+use Rattle.pglogical.specs.declared.message.Item.TheVariants as item
 use Rattle.pglogical.specs.declared.message.Message.{Message}
+use Rattle.pglogical.specs.declared.message.Message.TheVariants as message
+use Rattle.pglogical.specs.Spelling.{IsColumn, IsText, IsWire, IsSpellable, IsWireMessage}
+use Rattle.pglogical.specs.Spelling.{IsSpellableMessage}
 use Rattle.pgorder.specs.States.{is_in_block, is_outside}
 use Rattle.pgwire.specs.Frames.{CopyData}
 use Rattle.pgwire.specs.Payloads.{XLogData, Keepalive, payload_at}
@@ -71,3 +78,34 @@ module _ {C : Type 0} (holds : C → Tables → Type 0) (place : C → ℕ) (end
     where
       running : Subscribed → Outcome Subscribed Fault
       running s = Running s
+
+-- ---- what is read can be spelled
+
+names_spell : (columns : List Column) → AllByRecursion IsColumn columns → AllByRecursion (λ (c : Column). IsText c.name) columns
+names_spell [] are = tt
+names_spell (column ∷ columns) are = (are.0.0.plain, names_spell columns are.1)
+
+item_spells : (item : Item) → IsWire item → IsSpellable item
+item_spells (item.Relation def) is = record {
+  namespace = is.1.plain;
+  name = is.2.plain;
+  letter = is.3;
+  count = is.4;
+  names = names_spell def.columns is.5;
+}
+item_spells (item.Insert oid row) is = tt
+item_spells (item.Update oid prior row) is = tt
+item_spells (item.Delete oid kind row) is = tt
+item_spells (item.Truncate options oids) is = (is.0, is.1)
+
+pub message_spells : (m : Message) → IsWireMessage m → IsSpellableMessage m
+message_spells (message.Begin lsn time xid) is = tt
+message_spells (message.Commit lsn end time) is = tt
+message_spells (message.Origin lsn name) is = is.1.plain
+message_spells (message.TypeName xid oid namespace name) is = (is.2.plain, is.3.plain)
+message_spells (message.Logical xid transactional lsn prefix content) is = (is.2.plain, is.3)
+message_spells (message.Item xid item) is = item_spells item is.1
+message_spells (message.StreamStart xid first) is = tt
+message_spells message.StreamStop is = tt
+message_spells (message.StreamCommit xid lsn end time) is = tt
+message_spells (message.StreamAbort xid label) is = tt

@@ -33,7 +33,7 @@ use Rattle.pgwire.specs.declared.fault.WireFault.TheVariants as wire_fault
 use Rattle.pgwire.specs.Frames.{IsFramingFault}
 use Rattle.pgwire.proofs.Holding.{fault-append}
 use Rattle.pgsub_core.specs.Subscriber.Subscribed.{disconnect}
-use Rattle.pgapply.specs.declared.misses.Misses.{Misses}
+use Rattle.pgapply.specs.Tallies.{Tally}
 use Rattle.pgwire.proofs.Readings.{one_deframing}
 use Rattle.pgsub_core.specs.Machine.Counted.{decoded_counted, payload_counted, frame_counted}
 use Rattle.pgsub_core.specs.Machine.Counted.{counted_behind, frames_counted, IsCountedWhole}
@@ -51,11 +51,11 @@ over r (Stopped s why) = Stopped (wait r s) why
 
 passes_over : (r : List ℕ) (s : Subscribed) (k : Kind) → passes_limit (wait r s) k ≡ passes_limit s k
 passes_over r s (BeginsPair xid) = refl
-passes_over r s (CommitsPair lsn end) = refl
+passes_over r s (CommitsPair lsn end time) = refl
 passes_over r s (Holds subxid item) = refl
 passes_over r s (StartsBlock xid first) = refl
 passes_over r s StopsBlock = refl
-passes_over r s (CommitsStream xid lsn end) = refl
+passes_over r s (CommitsStream xid lsn end time) = refl
 passes_over r s (AbortsStream xid subxid) = refl
 passes_over r s ChangesNothing = refl
 
@@ -401,7 +401,7 @@ nothing_fed now s = record {
 
 -- ---- what is counted of both
 
-payload_counted_over : (r : List ℕ) (s : Subscribed) (res : Result ServerMessage WireFault) (m : Misses)
+payload_counted_over : (r : List ℕ) (s : Subscribed) (res : Result ServerMessage WireFault) (m : Tally)
     → payload_counted (wait r s) res m ≡ payload_counted s res m
 payload_counted_over r s (Ok (XLogData start end clock body)) m = by (message_at (is_in_block s.order.context) body)
   where
@@ -411,26 +411,26 @@ payload_counted_over r s (Ok (XLogData start end clock body)) m = by (message_at
 payload_counted_over r s (Ok (Keepalive end clock asks)) m = refl
 payload_counted_over r s (Err k) m = refl
 
-frame_counted_over : (r : List ℕ) (s : Subscribed) (f : Frame) (m : Misses) → frame_counted (wait r s) f m ≡ frame_counted s f m
+frame_counted_over : (r : List ℕ) (s : Subscribed) (f : Frame) (m : Tally) → frame_counted (wait r s) f m ≡ frame_counted s f m
 frame_counted_over r s (CopyData bytes) m = payload_counted_over r s (payload_at bytes) m
 frame_counted_over r s CopyDone m = refl
 
-behind_over : (r : List ℕ) (k : Subscribed → Misses) (m : Misses) → ((next : Subscribed) → k (wait r next) ≡ k next)
+behind_over : (r : List ℕ) (k : Subscribed → Tally) (m : Tally) → ((next : Subscribed) → k (wait r next) ≡ k next)
     → (o : Outcome Subscribed Fault) → counted_behind (over r o) k m ≡ counted_behind o k m
 behind_over r k m each (Running next) = each next
 behind_over r k m each (Stopped s why) = refl
 
 -- the bytes that wait have no say in it
-frames_counted_over : (now : ℤ) (r : List ℕ) (fs : List Frame) (s : Subscribed) (m : Misses)
+frames_counted_over : (now : ℤ) (r : List ℕ) (fs : List Frame) (s : Subscribed) (m : Tally)
     → frames_counted now (wait r s) fs m ≡ frames_counted now s fs m
 frames_counted_over now r [] s m = refl
 frames_counted_over now r (f ∷ fs) s m =
-    ap (λ (k : Misses). counted_behind (take_frame now (wait r s) f) (λ next. frames_counted now next fs k) k) (frame_counted_over r s f m)
+    ap (λ (k : Tally). counted_behind (take_frame now (wait r s) f) (λ next. frames_counted now next fs k) k) (frame_counted_over r s f m)
     ∙ ap (λ o. counted_behind o (λ next. frames_counted now next fs (frame_counted s f m)) (frame_counted s f m)) (frame_over now r s f)
     ∙ behind_over r (λ next. frames_counted now next fs (frame_counted s f m)) (frame_counted s f m)
     (λ next. frames_counted_over now r fs next (frame_counted s f m)) (take_frame now s f)
 
-behind_both : (now : ℤ) (a b : List Frame) (mid : Subscribed) (m : Misses) (o : Outcome Subscribed Fault)
+behind_both : (now : ℤ) (a b : List Frame) (mid : Subscribed) (m : Tally) (o : Outcome Subscribed Fault)
     → ((next : Subscribed) → take_frames now next a ≡ Running mid
     → frames_counted now next (a ++ b) m ≡ frames_counted now mid b (frames_counted now next a m))
     → then_run o (λ next. take_frames now next a) ≡ Running mid
@@ -439,14 +439,14 @@ behind_both : (now : ℤ) (a b : List Frame) (mid : Subscribed) (m : Misses) (o 
 behind_both now a b mid m (Running next) each e = each next e
 behind_both now a b mid m (Stopped s why) each e = absurd (cc)
 
-pub frames_counted-append : (now : ℤ) (a b : List Frame) (s mid : Subscribed) (m : Misses) → take_frames now s a ≡ Running mid
+pub frames_counted-append : (now : ℤ) (a b : List Frame) (s mid : Subscribed) (m : Tally) → take_frames now s a ≡ Running mid
     → frames_counted now s (a ++ b) m ≡ frames_counted now mid b (frames_counted now s a m)
 frames_counted-append now [] b s mid m e = ap (λ (x : Subscribed). frames_counted now x b m) (let same : s ≡ mid = cc in same)
 frames_counted-append now (f ∷ a) b s mid m e =
     behind_both now a b mid (frame_counted s f m) (take_frame now s f)
     (λ next k. frames_counted-append now a b next mid (frame_counted s f m) k) e
 
-counted_two : (now : ℤ) (old : Subscribed) (p q : List ℕ) (x y : ℕ) (before between behind : Misses)
+counted_two : (now : ℤ) (old : Subscribed) (p q : List ℕ) (x y : ℕ) (before between behind : Tally)
     (a : IsCountedWhole now old p x before between) → IsCountedWhole now (wait a.rest a.state) q y between behind
     → IsCountedWhole now old (p ++ q) y before behind
 counted_two now old p q x y before between behind a b =
@@ -478,7 +478,7 @@ counted_two now old p q x y before between behind a b =
     }
 
 -- and where but a front of the second is counted
-front_two : (now : ℤ) (old : Subscribed) (p q : List ℕ) (x y : ℕ) (before between behind : Misses)
+front_two : (now : ℤ) (old : Subscribed) (p q : List ℕ) (x y : ℕ) (before between behind : Tally)
     (a : IsCountedWhole now old p x before between) → IsCountedFront now (wait a.rest a.state) q y between behind
     → IsCountedFront now old (p ++ q) y before behind
 front_two now old p q x y before between behind a b =
@@ -506,7 +506,7 @@ front_two now old p q x y before between behind a b =
     }
 
 -- a front is one of longer bytes
-pub front_stands : (now : ℤ) (old : Subscribed) (p q : List ℕ) (position : ℕ) (before behind : Misses)
+pub front_stands : (now : ℤ) (old : Subscribed) (p q : List ℕ) (position : ℕ) (before behind : Tally)
     → IsCountedFront now old p position before behind → IsCountedFront now old (p ++ q) position before behind
 front_stands now old p q position before behind c =
     let D = done_frames old in
@@ -529,7 +529,7 @@ same_frames (f ∷ d) a b e = same_frames d a b (cc)
 same_state : (o : Outcome Subscribed Fault) (a b : Subscribed) → o ≡ Running a → o ≡ Running b → a ≡ b
 same_state o a b x y = let same : ◌≡◌ {A = Outcome Subscribed Fault} (Running a) (Running b) = sym x ∙ y in cc
 
-pub one_count : (now : ℤ) (old : Subscribed) (piece : List ℕ) (p q : ℕ) (before a b : Misses) → IsCountedWhole now old piece p before a
+pub one_count : (now : ℤ) (old : Subscribed) (piece : List ℕ) (p q : ℕ) (before a b : Tally) → IsCountedWhole now old piece p before a
     → IsCountedWhole now old piece q before b → (a ≡ b) × (p ≡ q)
 one_count now old piece p q before a b x y =
     let one = one_deframing old.max_frame old.max_frame _ _ _ _ _ x.deframed y.deframed in
@@ -540,7 +540,7 @@ one_count now old piece p q before a b x y =
     )
 
 -- what is fed of a piece and what is counted of it end in one state
-fed_and_counted : (now : ℤ) (old mid : Subscribed) (piece : List ℕ) (p : ℕ) (before between : Misses) → IsFedWhole now old piece mid
+fed_and_counted : (now : ℤ) (old mid : Subscribed) (piece : List ℕ) (p : ℕ) (before between : Tally) → IsFedWhole now old piece mid
     → (a : IsCountedWhole now old piece p before between) → mid ≡ wait a.rest a.state
 fed_and_counted now old mid piece p before between fed a =
     let one = one_deframing old.max_frame old.max_frame _ _ _ _ _ fed.deframed a.deframed in
@@ -548,7 +548,7 @@ fed_and_counted now old mid piece p before between fed a =
     let state = same_state (take_frames now old fed.fs) fed.state a.state fed.takes (ap (take_frames now old) fs ∙ a.takes) in
     fed.left ∙ ap (λ (s : Subscribed). wait fed.rest s) state ∙ ap (λ (r : List ℕ). wait r a.state) one.1
 
-pub counted_pieces : (now : ℤ) (old mid : Subscribed) (piece next : List ℕ) (p q : ℕ) (before between behind : Misses)
+pub counted_pieces : (now : ℤ) (old mid : Subscribed) (piece next : List ℕ) (p q : ℕ) (before between behind : Tally)
     → IsFedWhole now old piece mid → IsCountedWhole now old piece p before between → IsCountedWhole now mid next q between behind
     → IsCountedWhole now old (piece ++ next) q before behind
 counted_pieces now old mid piece next p q before between behind fed a b =
@@ -556,7 +556,7 @@ counted_pieces now old mid piece next p q before between behind fed a b =
     (subst (λ (s : Subscribed). IsCountedWhole now s next q between behind) (fed_and_counted now old mid piece p before between fed a)
     b)
 
-pub front_pieces : (now : ℤ) (old mid : Subscribed) (piece next : List ℕ) (p q : ℕ) (before between behind : Misses)
+pub front_pieces : (now : ℤ) (old mid : Subscribed) (piece next : List ℕ) (p q : ℕ) (before between behind : Tally)
     → IsFedWhole now old piece mid → IsCountedWhole now old piece p before between → IsCountedFront now mid next q between behind
     → IsCountedFront now old (piece ++ next) q before behind
 front_pieces now old mid piece next p q before between behind fed a b =

@@ -24,6 +24,7 @@ of_keeping may_fail spool.Memory other h = tt
 of_keeping may_fail spool.NotWritten other h = h
 of_keeping may_fail spool.NoRoom other h = h
 of_keeping may_fail spool.NotRead other h = absurd h
+of_keeping may_fail spool.TooManyOpen other h = h
 
 pub of_failure : (may_fail : Type 0) (k : SpoolFault) → IsFailure may_fail k → IsOfSpools may_fail (fault_of_spool k)
 of_failure may_fail spool.SpoolFull h = absurd h
@@ -31,6 +32,7 @@ of_failure may_fail spool.Memory h = tt
 of_failure may_fail spool.NotWritten h = h
 of_failure may_fail spool.NoRoom h = h
 of_failure may_fail spool.NotRead h = h
+of_failure may_fail spool.TooManyOpen h = absurd h
 
 pub feeding_of_spools : (may_fail : Type 0) (f : Fault) → IsOfSpools may_fail f → IsOfFeedingOver may_fail f
 feeding_of_spools may_fail fault.Memory h = tt
@@ -39,6 +41,7 @@ feeding_of_spools may_fail (fault.Spool spool.Memory) h = tt
 feeding_of_spools may_fail (fault.Spool spool.NotWritten) h = h
 feeding_of_spools may_fail (fault.Spool spool.NoRoom) h = h
 feeding_of_spools may_fail (fault.Spool spool.NotRead) h = h
+feeding_of_spools may_fail (fault.Spool spool.TooManyOpen) h = h
 feeding_of_spools may_fail (fault.Wire k) h = absurd h
 feeding_of_spools may_fail (fault.Decode k) h = absurd h
 feeding_of_spools may_fail (fault.Order k) h = absurd h
@@ -55,6 +58,7 @@ feeding_over may_fail (fault.Spool spool.Memory) h = tt
 feeding_over may_fail (fault.Spool spool.NotWritten) h = absurd h
 feeding_over may_fail (fault.Spool spool.NoRoom) h = absurd h
 feeding_over may_fail (fault.Spool spool.NotRead) h = absurd h
+feeding_over may_fail (fault.Spool spool.TooManyOpen) h = absurd h
 feeding_over may_fail (fault.Wire k) h = tt
 feeding_over may_fail (fault.Decode k) h = tt
 feeding_over may_fail (fault.Order k) h = tt
@@ -72,6 +76,7 @@ stops_event may_fail old m e limit (fault.Spool spool.Memory) h = absurd h
 stops_event may_fail old m e limit (fault.Spool spool.NotWritten) h = tt
 stops_event may_fail old m e limit (fault.Spool spool.NoRoom) h = tt
 stops_event may_fail old m e limit (fault.Spool spool.NotRead) h = tt
+stops_event may_fail old m e limit (fault.Spool spool.TooManyOpen) h = tt
 stops_event may_fail old m e limit (fault.Wire k) h = absurd h
 stops_event may_fail old m e limit (fault.Decode k) h = absurd h
 stops_event may_fail old m e limit (fault.Order k) h = absurd h
@@ -89,6 +94,7 @@ stops_commit may_fail old end items (fault.Spool spool.Memory) h = absurd h
 stops_commit may_fail old end items (fault.Spool spool.NotWritten) h = tt
 stops_commit may_fail old end items (fault.Spool spool.NoRoom) h = tt
 stops_commit may_fail old end items (fault.Spool spool.NotRead) h = tt
+stops_commit may_fail old end items (fault.Spool spool.TooManyOpen) h = tt
 stops_commit may_fail old end items (fault.Wire k) h = absurd h
 stops_commit may_fail old end items (fault.Decode k) h = absurd h
 stops_commit may_fail old end items (fault.Order k) h = absurd h

@@ -11,5 +11,5 @@ pub mod Applied
 pub mod SubscriberValue
 pub mod Following
 pub mod Crashing
-pub mod Missed
+pub mod Tallied
 pub mod Converging

@@ -29,10 +29,10 @@ ghost use Rattle.pgsub_core.specs.Calls.Committing.{Commits, RefusesCommit};
 ghost use Rattle.pgsub_core.specs.Calls.Loading.{LoadsBeside};
 ghost use Rattle.pgsub_core.specs.Machine.Counted.{message_counted, decoded_counted, frame_counted};
 ghost use Rattle.pgsub_core.specs.Machine.Counted.{CountsCommit, CountsEvent, CountsBy};
-ghost use Rattle.pgsub_core.specs.Calls.Staging.{Rests, Grows, KeepsItsSettings, IsMark, GoesBack};
+ghost use Rattle.pgsub_core.specs.Calls.Staging.{Steps, Grows, KeepsItsSettings, IsMark, GoesBack};
 ghost use Rattle.pgsub_core.specs.Calls.Events.{HasRoom, IsFull, FindsRoom, EventGoes, EventStops};
 ghost use Rattle.pgsub_core.specs.Calls.Events.{StaysBeside};
-ghost use Rattle.pgsub_core.specs.Machine.Faults.{IsOfFeedingOver, IsOfSpools, IsReadFault};
+ghost use Rattle.pgsub_core.specs.Machine.Faults.{IsOfSpools, IsReadFault};
 
 use crate::committing::{Ending, about_of, commit, later};
 use crate::committing_parts::commit_in_parts;
@@ -152,8 +152,8 @@ fn load<P: Loads<C>, C: ReplicaStore>(spools: &mut P, xid: u32, store: &mut C) -
     ensures refused { IfErr result (IsOfSpools P.may_fail) }
     ensures held { P.held spools.new ≡ P.held spools.old }
     ensures limit { P.most spools.new ≡ P.most spools.old }
-    ensures beside { LoadsBeside C.serves C.is_honest C.holds C.stages C.place C.reach C.missed
-        C.stages_missed C.reopens store.old store.new }
+    ensures beside { LoadsBeside C.serves C.is_honest C.holds C.stages C.place C.reach C.tally
+        C.stages_tally C.reopens store.old store.new }
 {
     spools.load_beside(xid, store)?;
     Ok(())
@@ -183,17 +183,11 @@ fn stage_commit<P: Loads<C>, C: ReplicaStore>(
         (items_of (held_of (P.held spools.old) ending.xid)) store.old confirmed book.old
         store.old) }
     ensures counts { C.serves store.new → OnOk result
-        (CountsCommit C.stages C.reach C.stages_missed ending.end
+        (CountsCommit C.stages C.reach C.stages_tally ending.end ending.about
         (items_of (held_of (P.held spools.old) ending.xid)) store.old confirmed book.old
         store.new) }
-    ensures uncounted { OnErr result (C.stages_missed store.new ≡ C.stages_missed store.old) }
-    ensures missed { C.missed store.new ≡ C.missed store.old }
-    ensures own { IfErr result (IsOfFeedingOver P.may_fail) }
-    ensures position { OnErr result (C.reach store.new ≡ C.reach store.old) }
-    ensures served { C.serves store.new → C.serves store.old }
-    ensures open { C.is_honest store.new → C.serves store.old → OnOk result (C.serves store.new) }
-    ensures honest { C.is_honest store.new → C.is_honest store.old }
-    ensures rests { Rests C.holds C.place C.reopens C.serves C.is_honest store.old store.new }
+    ensures steps { Steps C.holds C.place C.reopens C.serves C.is_honest C.reach C.tally
+        C.stages_tally P.may_fail result store.old store.new }
     ensures held { P.held spools.new ≡ P.held spools.old }
     ensures limit { P.most spools.new ≡ P.most spools.old }
 {
@@ -296,8 +290,8 @@ impl<P: Loads<C> + Drop, C: ReplicaStore + Drop> Applier<P, C> {
         ensures unchanged { Stays C.holds self.old.store self.new.store }
         ensures staged { Begins C.holds C.stages self.old.store self.new.store }
         ensures settled { Settles C.holds C.stages self.new.store self.new.store }
-        ensures missed { C.missed self.new.store ≡ C.missed self.old.store }
-        ensures unstaged { C.stages_missed self.new.store ≡ C.missed self.old.store }
+        ensures tally { C.tally self.new.store ≡ C.tally self.old.store }
+        ensures unstaged { C.stages_tally self.new.store ≡ C.tally self.old.store }
         ensures serves { C.serves self.old.store → C.serves self.new.store }
         ensures served { C.serves self.new.store → C.serves self.old.store }
         ensures stays_honest { C.is_honest self.old.store → C.is_honest self.new.store }
@@ -349,8 +343,8 @@ impl<P: Loads<C> + Drop, C: ReplicaStore + Drop> Applier<P, C> {
         ensures nothing { C.reach self.old.store ≡ C.place self.old.store →
             self.new.store ≡ self.old.store }
         ensures fault { IfErr result IsReadFault }
-        ensures counts { OnOk result (C.missed self.new.store ≡ C.stages_missed self.old.store) }
-        ensures uncounted { OnErr result (C.missed self.new.store ≡ C.missed self.old.store) }
+        ensures counts { OnOk result (C.tally self.new.store ≡ C.stages_tally self.old.store) }
+        ensures uncounted { OnErr result (C.tally self.new.store ≡ C.tally self.old.store) }
         ensures served { C.serves self.new.store → C.serves self.old.store }
         ensures open { C.is_honest self.new.store →
             C.place self.old.store < C.reach self.old.store →
@@ -378,53 +372,8 @@ impl<P: Loads<C> + Drop, C: ReplicaStore + Drop> Applier<P, C> {
         }
     }
 
-    // Commits a transaction, whose items are buffered no longer.
-    fn commit(&mut self, ending: Ending) -> Result<(), Fault>
-        ensures taken { C.serves self.new.store →
-            OnOk result (Commits C.stages C.reach ending.end
-            (items_of (held_of self.old.held ending.xid)) self.old.store self.old.confirmed
-            self.old.relations self.new.store self.new.confirmed self.new.relations) }
-        ensures refused { C.serves self.new.store →
-            IfErr result (RefusesCommit C.stages C.reach ending.end
-            (items_of (held_of self.old.held ending.xid)) self.old.store self.old.confirmed
-            self.old.relations self.new.store) }
-        ensures why { C.is_honest self.new.store → C.serves self.old.store →
-            IfErr result (RefusesCommit C.stages C.reach ending.end
-            (items_of (held_of self.old.held ending.xid)) self.old.store self.old.confirmed
-            self.old.relations self.old.store) }
-        ensures counts { C.serves self.new.store →
-            OnOk result (CountsCommit C.stages C.reach C.stages_missed ending.end
-            (items_of (held_of self.old.held ending.xid)) self.old.store self.old.confirmed
-            self.old.relations self.new.store) }
-        ensures uncounted { OnErr result (C.stages_missed self.new.store
-            ≡ C.stages_missed self.old.store) }
-        ensures missed { C.missed self.new.store ≡ C.missed self.old.store }
-        ensures own { IfErr result (IsOfFeedingOver P.may_fail) }
-        ensures held { OnOk result (self.new.held ≡ map.remove self.old.held ending.xid) }
-        ensures beside { StaysBeside self.old self.new }
-        ensures kept { OnErr result (IsKept C.reach self.old self.new) }
-        ensures served { C.serves self.new.store → C.serves self.old.store }
-        ensures open { C.is_honest self.new.store → C.serves self.old.store →
-            OnOk result (C.serves self.new.store) }
-        ensures honest { C.is_honest self.new.store → C.is_honest self.old.store }
-        ensures rests { Rests C.holds C.place C.reopens C.serves C.is_honest self.old.store
-            self.new.store }
-    {
-        let xid = ending.xid;
-        let confirmed = stage_commit(
-            self.alloc,
-            &mut self.book,
-            &mut self.spools,
-            &mut self.store,
-            self.confirmed,
-            ending,
-        )?;
-        self.confirmed = confirmed;
-        self.spools.drop_xid(xid);
-        Ok(())
-    }
-
-    // Applies what a message means where it comes.
+    // Applies what a message means where it comes. The items of a transaction that commits are
+    // buffered no longer.
     #[tactic(auto, using(crate::proofs::Spooling::stops_event, crate::proofs::Spooling::feeding_of_spools))]
     fn take_event(&mut self, message: &MessageRef<'_>, event: Event) -> Result<(), Fault>
         requires fits { Fits self.old.held event }
@@ -443,19 +392,12 @@ impl<P: Loads<C> + Drop, C: ReplicaStore + Drop> Applier<P, C> {
             IfErr result (EventStops C.stages C.reach
             (message_value message.now) event self.old self.old) }
         ensures counts { C.serves self.new.store →
-            OnOk result (CountsEvent C.stages C.reach C.stages_missed event self.old self.new) }
-        ensures uncounted { OnErr result (C.stages_missed self.new.store
-            ≡ C.stages_missed self.old.store) }
-        ensures missed { C.missed self.new.store ≡ C.missed self.old.store }
-        ensures own { IfErr result (IsOfFeedingOver P.may_fail) }
+            OnOk result (CountsEvent C.stages C.reach C.stages_tally
+            (message_value message.now) event self.old self.new) }
+        ensures steps { Steps C.holds C.place C.reopens C.serves C.is_honest C.reach C.tally
+            C.stages_tally P.may_fail result self.old.store self.new.store }
         ensures beside { StaysBeside self.old self.new }
         ensures kept { OnErr result (IsKept C.reach self.old self.new) }
-        ensures served { C.serves self.new.store → C.serves self.old.store }
-        ensures open { C.is_honest self.new.store → C.serves self.old.store →
-            OnOk result (C.serves self.new.store) }
-        ensures honest { C.is_honest self.new.store → C.is_honest self.old.store }
-        ensures rests { Rests C.holds C.place C.reopens C.serves C.is_honest self.old.store
-            self.new.store }
     {
         match event {
             Event::Ignore | Event::Reopen { .. } | Event::Close => Ok(()),
@@ -468,7 +410,17 @@ impl<P: Loads<C> + Drop, C: ReplicaStore + Drop> Applier<P, C> {
             }
             Event::CommitPair { xid, end, .. } | Event::CommitStream { xid, end, .. } => {
                 let about = about_of(message, xid);
-                self.commit(Ending { xid, end, about })
+                let confirmed = stage_commit(
+                    self.alloc,
+                    &mut self.book,
+                    &mut self.spools,
+                    &mut self.store,
+                    self.confirmed,
+                    Ending { xid, end, about },
+                )?;
+                self.confirmed = confirmed;
+                self.spools.drop_xid(xid);
+                Ok(())
             }
         }
     }
@@ -479,8 +431,8 @@ impl<P: Loads<C> + Drop, C: ReplicaStore + Drop> Applier<P, C> {
     #[inline(always)]
     fn hear(&mut self, message: &MessageRef<'_>)
         ensures beside { StaysBesideStore self.old self.new }
-        ensures hears { HearsOnly C.serves C.is_honest C.holds C.stages C.place C.reach C.missed
-            C.stages_missed C.reopens self.old.store self.new.store }
+        ensures hears { HearsOnly C.serves C.is_honest C.holds C.stages C.place C.reach C.tally
+            C.stages_tally C.reopens self.old.store self.new.store }
     {
         match message {
             MessageRef::Begin { .. } | MessageRef::StreamCommit { .. } => self.store.forget(),
@@ -500,14 +452,9 @@ impl<P: Loads<C> + Drop, C: ReplicaStore + Drop> Applier<P, C> {
         }
     }
 
-    /// Applies a logical message. `start` and `end` are the fields of its XLogData.
+    // Applies a logical message. `start` and `end` are the fields of its XLogData.
     #[tactic(auto, using(crate::proofs::Spooling::feeding_over))]
-    pub fn take_message(
-        &mut self,
-        message: &MessageRef<'_>,
-        start: Lsn,
-        end: Lsn,
-    ) -> Result<(), Fault>
+    fn take_message(&mut self, message: &MessageRef<'_>, start: Lsn, end: Lsn) -> Result<(), Fault>
         requires for_place { IsMessageFor (is_in_block self.old.order.context)
             (message_value message.now) }
         requires spellable { IsSpellableMessage (message_value message.now) }
@@ -528,19 +475,11 @@ impl<P: Loads<C> + Drop, C: ReplicaStore + Drop> Applier<P, C> {
             Stops C.stages C.reach now (Data start end clock (message_value message.now)) self.old
             self.old fault) }
         ensures counts { C.serves self.new.store →
-            OnOk result (CountsBy C.stages C.reach C.stages_missed
+            OnOk result (CountsBy C.stages C.reach C.stages_tally
             (λ s. message_counted s (message_value message.now)) self.old self.new) }
-        ensures uncounted { OnErr result (C.stages_missed self.new.store
-            ≡ C.stages_missed self.old.store) }
-        ensures missed { C.missed self.new.store ≡ C.missed self.old.store }
-        ensures own { IfErr result (IsOfFeedingOver P.may_fail) }
+        ensures steps { Steps C.holds C.place C.reopens C.serves C.is_honest C.reach C.tally
+            C.stages_tally P.may_fail result self.old.store self.new.store }
         ensures kept { OnErr result (IsKept C.reach self.old self.new) }
-        ensures served { C.serves self.new.store → C.serves self.old.store }
-        ensures open { C.is_honest self.new.store → C.serves self.old.store →
-            OnOk result (C.serves self.new.store) }
-        ensures honest { C.is_honest self.new.store → C.is_honest self.old.store }
-        ensures rests { Rests C.holds C.place C.reopens C.serves C.is_honest self.old.store
-            self.new.store }
     {
         self.hear(message);
         let event = self.order.step(message)?;
@@ -551,6 +490,7 @@ impl<P: Loads<C> + Drop, C: ReplicaStore + Drop> Applier<P, C> {
 
     /// Applies the payload of a CopyData frame: XLogData with a logical message, or a keepalive.
     /// `now` is the clock of a reply.
+    #[tactic(auto, using(crate::proofs::Spooling::feeding_over))]
     pub fn take_payload(&mut self, payload: &[u8], now: i64) -> Result<(), Fault>
         requires opened { AreOpened self.old.order self.old.held }
         ensures takes { C.serves self.new.store →
@@ -563,22 +503,14 @@ impl<P: Loads<C> + Drop, C: ReplicaStore + Drop> Applier<P, C> {
             IfErr result (IsStopped C.stages C.reach
             (StopsAt (CopyData payload.now) now) self.old self.old) }
         ensures counts { C.serves self.new.store →
-            OnOk result (CountsBy C.stages C.reach C.stages_missed
+            OnOk result (CountsBy C.stages C.reach C.stages_tally
             (λ s. frame_counted s (CopyData payload.now)) self.old self.new) }
-        ensures uncounted { OnErr result (C.stages_missed self.new.store
-            ≡ C.stages_missed self.old.store) }
-        ensures missed { C.missed self.new.store ≡ C.missed self.old.store }
-        ensures own { IfErr result (IsOfFeedingOver P.may_fail) }
+        ensures steps { Steps C.holds C.place C.reopens C.serves C.is_honest C.reach C.tally
+            C.stages_tally P.may_fail result self.old.store self.new.store }
         ensures grows { Grows self.old.replies self.new.replies }
         ensures settings { KeepsItsSettings self.old self.new }
         ensures opened { OnOk result (AreOpened self.new.order self.new.held) }
         ensures kept { OnErr result (IsKept C.reach self.old self.new) }
-        ensures served { C.serves self.new.store → C.serves self.old.store }
-        ensures open { C.is_honest self.new.store → C.serves self.old.store →
-            OnOk result (C.serves self.new.store) }
-        ensures honest { C.is_honest self.new.store → C.is_honest self.old.store }
-        ensures rests { Rests C.holds C.place C.reopens C.serves C.is_honest self.old.store
-            self.new.store }
     {
         let message = match decode_server(payload) {
             Ok(message) => message,
@@ -590,48 +522,13 @@ impl<P: Loads<C> + Drop, C: ReplicaStore + Drop> Applier<P, C> {
                 end,
                 body,
                 ..
-            } => self.take_body(body, *start, *end),
+            } => {
+                // decoded in place
+                let logical = decode_ref(body, self.order.in_block())?;
+                self.take_message(&logical, *start, *end)
+            }
             ServerMsg::Keepalive { end, reply, .. } => self.take_keepalive(*end, *reply, now),
         }
-    }
-
-    // Decodes the logical message in an XLogData in place, and applies it.
-    #[tactic(auto, using(crate::proofs::Spooling::feeding_over))]
-    fn take_body(&mut self, body: &[u8], start: Lsn, end: Lsn) -> Result<(), Fault>
-        requires opened { AreOpened self.old.order self.old.held }
-        ensures takes { C.serves self.new.store →
-            OnOk result ((m : Message) × (message_at (is_in_block self.old.order.context) body.now
-            ≡ Ok m) × ((now clock : ℤ) → Goes C.stages C.reach
-            (λ s. take now s (Data start end clock m)) self.old self.new)) }
-        ensures refused { C.serves self.new.store →
-            IfErr result (λ f. (now clock : ℤ) →
-            IsStopped C.stages C.reach (StopsAtBody now start end clock body.now) self.old self.new
-            f) }
-        ensures why { C.is_honest self.new.store → C.serves self.old.store →
-            IfErr result (λ f. (now clock : ℤ) →
-            IsStopped C.stages C.reach (StopsAtBody now start end clock body.now) self.old self.old
-            f) }
-        ensures counts { C.serves self.new.store →
-            OnOk result (CountsBy C.stages C.reach C.stages_missed
-            (λ s. decoded_counted s (message_at (is_in_block s.order.context) body.now)) self.old
-            self.new) }
-        ensures uncounted { OnErr result (C.stages_missed self.new.store
-            ≡ C.stages_missed self.old.store) }
-        ensures missed { C.missed self.new.store ≡ C.missed self.old.store }
-        ensures own { IfErr result (IsOfFeedingOver P.may_fail) }
-        ensures silent { self.new.replies ≡ self.old.replies }
-        ensures settings { KeepsItsSettings self.old self.new }
-        ensures opened { OnOk result (AreOpened self.new.order self.new.held) }
-        ensures kept { OnErr result (IsKept C.reach self.old self.new) }
-        ensures served { C.serves self.new.store → C.serves self.old.store }
-        ensures open { C.is_honest self.new.store → C.serves self.old.store →
-            OnOk result (C.serves self.new.store) }
-        ensures honest { C.is_honest self.new.store → C.is_honest self.old.store }
-        ensures rests { Rests C.holds C.place C.reopens C.serves C.is_honest self.old.store
-            self.new.store }
-    {
-        let message = decode_ref(body, self.order.in_block())?;
-        self.take_message(&message, start, end)
     }
 
     // Confirms the end of a quiet keepalive, and appends the status that it asks for.
@@ -717,7 +614,7 @@ impl<P: Loads<C> + Drop, C: ReplicaStore + Drop> Applier<P, C> {
 
     /// How many changes of stored commits found no row.
     pub fn misses(&self) -> Misses
-        ensures { result ≡ C.missed self.now.store }
+        ensures { result ≡ (C.tally self.now.store).misses }
     {
         self.store.misses()
     }
@@ -727,7 +624,7 @@ impl<P: Loads<C> + Drop, C: ReplicaStore + Drop> Applier<P, C> {
         ensures rows { C.serves self.new.store →
             IfOk result (λ rows. Shows C.holds self.old.store rows.items) }
         ensures unchanged { C.serves self.new.store → Stays C.holds self.old.store self.new.store }
-        ensures missed { C.missed self.new.store ≡ C.missed self.old.store }
+        ensures tally { C.tally self.new.store ≡ C.tally self.old.store }
         ensures kept { IsKept C.place self.old self.new }
         ensures beside { StaysBesideStore self.old self.new }
         ensures fault { C.is_honest self.new.store → IfErr result IsReadFault }

@@ -5,14 +5,13 @@
 
 ghost use Rattle.std.specs.Prelude.{◌≡◌, ◌<◌, OnOk, OnErr, IfOk, IfErr, IsTrue};
 ghost use Rattle.pgspool.specs.Labels.{items_of, held_of};
-ghost use Rattle.pgapply.specs.Missing.{Counts};
+ghost use Rattle.pgapply.specs.Tallies.{Counts};
 ghost use Rattle.pgapply.specs.Taken.{Folds, Stays, RefusesWork};
 ghost use Rattle.pgsub_core.specs.Calls.Committing.{Commits, RefusesCommit};
 ghost use Rattle.pgsub_core.specs.Calls.Parting.{changes_in, IsDescribed, staging_told};
 ghost use Rattle.pgsub_core.specs.Calls.Parting.{StopsStaging};
-ghost use Rattle.pgsub_core.specs.Calls.Staging.{Rests};
+ghost use Rattle.pgsub_core.specs.Calls.Staging.{Steps};
 ghost use Rattle.pgsub_core.specs.Machine.Counted.{CountsCommit};
-ghost use Rattle.pgsub_core.specs.Machine.Faults.{IsOfFeedingOver};
 
 use crate::committing::{Ending, later};
 use crate::fault::Fault;
@@ -52,7 +51,6 @@ fn stage_described<P: Spools, C: ReplicaStore>(
         (changes_in book.old (items_of (held_of (P.held spools.old) ending.xid)))) }
     ensures end { OnOk result (C.reach store.new ≡ ending.end) }
     ensures undone { C.serves store.new → OnErr result (Stays C.stages store.old store.new) }
-    ensures reach { OnErr result (C.reach store.new ≡ C.reach store.old) }
     ensures fault { IsTrue (P.is_honest spools.new) → C.serves store.new → IfErr result
         (StopsStaging P.may_fail (RefusesWork C.stages store.old
         (changes_in book.old (items_of (held_of (P.held spools.old) ending.xid))))) }
@@ -60,20 +58,12 @@ fn stage_described<P: Spools, C: ReplicaStore>(
     ensures why { IsTrue (P.is_honest spools.new) → C.is_honest store.new → C.serves store.old →
         IfErr result (StopsStaging P.may_fail (RefusesWork C.stages store.old
         (changes_in book.old (items_of (held_of (P.held spools.old) ending.xid))))) }
-    ensures unchanged { C.serves store.new → Stays C.holds store.old store.new }
-    ensures position { C.place store.new ≡ C.place store.old }
     ensures counts { IsTrue (P.is_honest spools.new) → C.serves store.new → OnOk result
-        (Counts C.stages store.old
-        (changes_in book.old (items_of (held_of (P.held spools.old) ending.xid))) ending.end
-        (C.stages_missed store.old) (C.stages_missed store.new)) }
-    ensures uncounted { OnErr result (C.stages_missed store.new ≡ C.stages_missed store.old) }
-    ensures missed { C.missed store.new ≡ C.missed store.old }
-    ensures own { IfErr result (IsOfFeedingOver P.may_fail) }
-    ensures served { C.serves store.new → C.serves store.old }
-    ensures open { C.is_honest store.new → OnOk result (C.serves store.new) }
-    ensures honest { C.is_honest store.new → C.is_honest store.old }
-    ensures crash { C.is_honest store.new → (other : C) → C.reopens store.new other →
-        C.reopens store.old other }
+        (Counts C.stages store.old ending.end ending.about
+        (changes_in book.old (items_of (held_of (P.held spools.old) ending.xid)))
+        (C.stages_tally store.old) (C.stages_tally store.new)) }
+    ensures steps { Steps C.holds C.place C.reopens C.serves C.is_honest C.reach C.tally
+        C.stages_tally P.may_fail result store.old store.new }
     ensures held { P.held spools.new ≡ P.held spools.old }
     ensures limit { P.most spools.new ≡ P.most spools.old }
     ensures given_back { IsTrue (P.is_honest spools.new) → IsTrue (P.is_honest spools.old) }
@@ -119,17 +109,11 @@ fn take_parts<P: Spools, C: ReplicaStore>(
         (items_of (held_of (P.held spools.old) ending.xid)) store.old confirmed book.old
         store.old) }
     ensures counts { IsTrue (P.is_honest spools.new) → C.serves store.new → OnOk result
-        (CountsCommit C.stages C.reach C.stages_missed ending.end
+        (CountsCommit C.stages C.reach C.stages_tally ending.end ending.about
         (items_of (held_of (P.held spools.old) ending.xid)) store.old confirmed book.old
         store.new) }
-    ensures uncounted { OnErr result (C.stages_missed store.new ≡ C.stages_missed store.old) }
-    ensures missed { C.missed store.new ≡ C.missed store.old }
-    ensures own { IfErr result (IsOfFeedingOver P.may_fail) }
-    ensures position { OnErr result (C.reach store.new ≡ C.reach store.old) }
-    ensures served { C.serves store.new → C.serves store.old }
-    ensures open { C.is_honest store.new → C.serves store.old → OnOk result (C.serves store.new) }
-    ensures honest { C.is_honest store.new → C.is_honest store.old }
-    ensures rests { Rests C.holds C.place C.reopens C.serves C.is_honest store.old store.new }
+    ensures steps { Steps C.holds C.place C.reopens C.serves C.is_honest C.reach C.tally
+        C.stages_tally P.may_fail result store.old store.new }
     ensures held { P.held spools.new ≡ P.held spools.old }
     ensures limit { P.most spools.new ≡ P.most spools.old }
 {
@@ -166,17 +150,11 @@ pub(crate) fn commit_in_parts<P: Loads<C>, C: ReplicaStore>(
         (items_of (held_of (P.held spools.old) ending.xid)) store.old confirmed book.old
         store.old) }
     ensures counts { C.serves store.new → OnOk result
-        (CountsCommit C.stages C.reach C.stages_missed ending.end
+        (CountsCommit C.stages C.reach C.stages_tally ending.end ending.about
         (items_of (held_of (P.held spools.old) ending.xid)) store.old confirmed book.old
         store.new) }
-    ensures uncounted { OnErr result (C.stages_missed store.new ≡ C.stages_missed store.old) }
-    ensures missed { C.missed store.new ≡ C.missed store.old }
-    ensures own { IfErr result (IsOfFeedingOver P.may_fail) }
-    ensures position { OnErr result (C.reach store.new ≡ C.reach store.old) }
-    ensures served { C.serves store.new → C.serves store.old }
-    ensures open { C.is_honest store.new → C.serves store.old → OnOk result (C.serves store.new) }
-    ensures honest { C.is_honest store.new → C.is_honest store.old }
-    ensures rests { Rests C.holds C.place C.reopens C.serves C.is_honest store.old store.new }
+    ensures steps { Steps C.holds C.place C.reopens C.serves C.is_honest C.reach C.tally
+        C.stages_tally P.may_fail result store.old store.new }
     ensures held { P.held spools.new ≡ P.held spools.old }
     ensures limit { P.most spools.new ≡ P.most spools.old }
 {

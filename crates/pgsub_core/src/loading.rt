@@ -19,16 +19,16 @@ pub trait Loads<C: ReplicaStore>: Spools {
         ensures fault { IfErr result (IsFailure Self.may_fail) }
         ensures held { Self.held self.new ≡ Self.held self.old }
         ensures limit { Self.most self.new ≡ Self.most self.old }
-        ensures beside { LoadsBeside C.serves C.is_honest C.holds C.stages C.place C.reach C.missed
-            C.stages_missed C.reopens store.old store.new };
+        ensures beside { LoadsBeside C.serves C.is_honest C.holds C.stages C.place C.reach C.tally
+            C.stages_tally C.reopens store.old store.new };
 
     /// Tells the store whether all that was read back until now is what was written. Nothing that
     /// the store holds or has staged changes.
     fn note_beside(&self, store: &mut C)
         ensures noted { C.serves store.new → IsTrue (Self.is_honest self.now) }
         ensures noted_honest { C.is_honest store.new → IsTrue (Self.is_honest self.now) }
-        ensures beside { LoadsBeside C.serves C.is_honest C.holds C.stages C.place C.reach C.missed
-            C.stages_missed C.reopens store.old store.new };
+        ensures beside { LoadsBeside C.serves C.is_honest C.holds C.stages C.place C.reach C.tally
+            C.stages_tally C.reopens store.old store.new };
 }
 
 /// What is kept in memory is read back as it was written, whatever store is beside it.

@@ -112,16 +112,16 @@ pub fn pump<R: Read + Drop, P: Loads<C> + Drop, C: ReplicaStore + Drop>(
         PumpsUntil C.holds C.place now (R.remaining source.old.reader)
         (R.remaining source.new.reader) subscriber.old subscriber.new fault) }
     ensures counts { C.serves subscriber.new.applied.store →
-        OnOk result (PumpsCounted C.holds C.place C.missed now (R.remaining source.old.reader)
+        OnOk result (PumpsCounted C.holds C.place C.tally now (R.remaining source.old.reader)
         (R.remaining source.new.reader) source.old.reads source.new.reads subscriber.old
         subscriber.new) }
     ensures failed_counts { C.serves subscriber.new.applied.store → result ≡ Err Fault.Read →
-        PumpsCounted C.holds C.place C.missed now (R.remaining source.old.reader)
+        PumpsCounted C.holds C.place C.tally now (R.remaining source.old.reader)
         (R.remaining source.new.reader) source.old.reads source.new.reads subscriber.old
         subscriber.new }
     ensures counts_refused { C.serves subscriber.new.applied.store →
         subscriber.old.framing.closed ≡ false → IfErr result (λ fault. fault ≢ Fault.Read →
-        PumpsCountedUntil C.holds C.place C.missed now (R.remaining source.old.reader)
+        PumpsCountedUntil C.holds C.place C.tally now (R.remaining source.old.reader)
         (R.remaining source.new.reader) subscriber.old subscriber.new fault) }
     ensures served { C.serves subscriber.new.applied.store → C.serves subscriber.old.applied.store }
     ensures still_serves { C.is_honest subscriber.new.applied.store →

@@ -114,22 +114,23 @@ module _ (v : Version) (known : OidSet) (limit held : ℕ) (streams : List Noted
         let made = work_of earlier items pair.0 pair.1 in
         subst (λ (w : Watch). IsStep f w before earlier (message.Commit lsn end time)) (ap (of_ok w) e)
         (inr (record {
-          completed = WholeCommit x lsn end items;
+          completed = WholeCommit x lsn end time items;
           xid = x;
           lsn = lsn;
           end = end;
+          time = time;
           items = items;
           changes = pair.0;
-          one = ap (λ p. pair_commit p lsn end items) place.0;
+          one = ap (λ p. pair_commit p lsn end time items) place.0;
           described = pair.1;
           some = (
             made.work,
             made.is,
             subst (λ xs. AllDiffer (x ∷ xs)) (sym made.plain) (refl, tt),
             made.makes,
-            (refl, refl, refl, refl),
+            (refl, refl, refl, refl, refl),
           );
-          only = λ t surviving differ h. (h.1, h.2, h.3);
+          only = λ t surviving differ h. (h.1, h.2, h.4);
           behind = ok.behind;
           ends = ok.ends;
           after = ok.after;
@@ -347,11 +348,11 @@ module _ (v : Version) (known : OidSet) (limit held : ℕ) (streams : List Noted
         → commit_judged f n lsn end ≡ r → with_facts (watch_at s) r ≡ Err b → IsRefusal f before earlier (message.Commit lsn end time)
     refused_commit lsn end time l x place s (Ok g) is e = absurd (cc)
     refused_commit lsn end time l x place s (Err why) is e = record {
-      completed = WholeCommit x lsn end (pair_items before);
-      one = ap (λ p. pair_commit p lsn end (pair_items before)) place.0;
+      completed = WholeCommit x lsn end time (pair_items before);
+      one = ap (λ p. pair_commit p lsn end time (pair_items before)) place.0;
       none = λ t surviving differ h behind ends after above made.
           refused_for f lsn end t.lsn t.end (described earlier (pair_items before)) (surviving_changes t.work) h.1 h.2 behind ends after
-          above (ap (described earlier) (sym h.3) ∙ made)
+          above (ap (described earlier) (sym h.4) ∙ made)
           (bad f n lsn end why (described earlier (pair_items before)) place.2 is);
     }
 

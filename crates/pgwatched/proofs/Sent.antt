@@ -146,7 +146,7 @@ module _ (fs : List Framed) (u : Watch)
   commit_sent start end clock m v c kept e =
       let s = rest v (m ∷ before) (relations_after earlier c.items) (record { place = c.goes; kept = kept }) e in
       let made = c.some in
-      let t : Transaction = record { xid = c.xid; work = made.0; lsn = c.lsn; end = c.end } in
+      let t : Transaction = record { xid = c.xid; work = made.0; lsn = c.lsn; end = c.end; time = c.time } in
       record {
         ts = t ∷ s.ts;
         history = (c.behind, c.ends, made.1, made.2, subst (λ from. IsHistoryFrom from s.ts) c.last s.history);

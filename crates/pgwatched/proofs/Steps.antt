@@ -1,7 +1,7 @@
 -- What a watch knows behind the messages before it, and what one message more does.
 use Rattle.std.proofs.Common.{◌≡◌, ◌≢◌, ◌<◌, ◌≤◌, ◌⊎◌, inl, inr, ℕ, List, [], ◌∷◌, Bool, true}
 use Rattle.std.proofs.Common.{false, cond, ◌&&◌, nat_le, nat_lt, Option, Some, None, Result}
-use Rattle.std.proofs.Common.{Ok, Err, refl, sym, ap, subst, ◌∙◌, arith}
+use Rattle.std.proofs.Common.{ℤ, Ok, Err, refl, sym, ap, subst, ◌∙◌, arith}
 use Rattle.std.proofs.lemmas.Bool.Decides.{nat_tests, leb_tells}
 use Rattle.pglogical.specs.declared.message.RelationDef.{RelationDef}
 use Rattle.pglogical.specs.declared.message.Item.{Item}
@@ -49,13 +49,14 @@ pub record IsCommit (f : Facts) (w : Watch) (before : List Message) (earlier : L
   pub xid : ℕ
   pub lsn : ℕ
   pub end : ℕ
+  pub time : ℤ
   pub items : List Item
   pub changes : List Change
   pub one : commits_of before m ≡ Committed completed ∷ []
   pub described : described earlier items ≡ Ok changes
   -- it is some transaction's, and of any that it may be of, these items survive
   pub some : (work : Work) × IsWork work × AllDiffer (xid ∷ xids_of work) × (surviving_changes work ≡ changes)
-      × IsCommitOf (record { xid = xid; work = work; lsn = lsn; end = end }) completed items
+      × IsCommitOf (record { xid = xid; work = work; lsn = lsn; end = end; time = time }) completed items
   pub only : (t : Transaction) (surviving : List Item) → AllDiffer (t.xid ∷ xids_of t.work) → IsCommitOf t completed surviving
       → (lsn ≡ t.lsn) × (end ≡ t.end) × (surviving ≡ items)
   pub behind : f.last_end ≤ lsn

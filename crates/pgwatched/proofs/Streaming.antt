@@ -142,17 +142,18 @@ module _ (n : ℕ) (before : List Message) (earlier : List RelationDef) (t : Wat
         let p = missing_none u.facts.missing u.facts.changes (described earlier k.items) ok.described r.pair in
         let made = k.some earlier p.0 p.1 in
         subst (λ (w : Watch). IsCommit t.facts w before earlier m) is (record {
-          completed = StreamedCommit xid lsn end streamed;
+          completed = StreamedCommit xid lsn end time streamed;
           xid = xid;
           lsn = lsn;
           end = end;
+          time = time;
           items = k.items;
           changes = p.0;
           one = refl;
           described = p.1;
-          some = (made.0, made.1, made.2, made.3, (refl, refl, refl, made.4));
+          some = (made.0, made.1, made.2, made.3, (refl, refl, refl, refl, made.4));
           only = λ tr surviving differ h.
-              (h.1, h.2, only_these (k.items, k.any.0, k.any.1) tr surviving differ h.0 h.3);
+              (h.1, h.2, only_these (k.items, k.any.0, k.any.1) tr surviving differ h.0 h.4);
           behind = subst (λ x. x ≤ lsn) (sym r.alike.last) ok.behind;
           ends = ok.ends;
           after = subst (λ x. x < end) (sym r.alike.start) ok.after;
@@ -188,11 +189,11 @@ module _ (n : ℕ) (before : List Message) (earlier : List RelationDef) (t : Wat
   module _ (b : Breach) (rule : IsOfRule b) where
     misfits : (x : Noted) → nest (at_end xid) (of_xid xid t.streams) ≡ Err x → IsRefusal t.facts before earlier m
     misfits x is = record {
-      completed = StreamedCommit xid lsn end streamed;
+      completed = StreamedCommit xid lsn end time streamed;
       one = refl;
       none = λ tr surviving differ h behind ends after above made.
           misfit_is_not_streamed xid streamed (erase x) (nest_of_it xid (of_xid xid t.streams) streamed same (Err x) is) tr.work surviving
-          (subst (λ y. AllDiffer (y ∷ xids_of tr.work)) (sym h.0) differ) h.3;
+          (subst (λ y. AllDiffer (y ∷ xids_of tr.work)) (sym h.0) differ) h.4;
     }
 
     refused_facts : (noted : List Noted) → IsNested xid streamed noted → (u : Watch) → replayed again n noted ≡ Ok u
@@ -200,13 +201,13 @@ module _ (n : ℕ) (before : List Message) (earlier : List RelationDef) (t : Wat
     refused_facts noted k u read why judged =
         let r = all_read n earlier noted k.items [] again u k.same knows ([], refl, refl) read in
         record {
-          completed = StreamedCommit xid lsn end streamed;
+          completed = StreamedCommit xid lsn end time streamed;
           one = refl;
           none = λ tr surviving differ h behind ends after above made.
               refused_for u.facts lsn end tr.lsn tr.end (described earlier k.items) _ h.1 h.2
               (subst (λ x. x ≤ tr.lsn) r.alike.last behind) ends
               (subst (λ x. x < tr.end) r.alike.start after) (λ changes. subst (λ x. x < tr.end) r.alike.told (above changes))
-              (ap (described earlier) (sym (only_these (k.items, k.any.0, k.any.1) tr surviving differ h.0 h.3)) ∙ made)
+              (ap (described earlier) (sym (only_these (k.items, k.any.0, k.any.1) tr surviving differ h.0 h.4)) ∙ made)
               (bad u.facts n lsn end why (described earlier k.items) r.pair judged);
         }
 

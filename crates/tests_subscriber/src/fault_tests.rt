@@ -14,7 +14,7 @@ use pgwire::WireFault;
 use std::process::Abort;
 
 /// One fault of each kind that following can end with.
-static FAULTS: [Fault; 37] = [
+static FAULTS: [Fault; 38] = [
     Fault::Wire(WireFault::UnknownFrame(120)),
     Fault::Wire(WireFault::BadLength),
     Fault::Wire(WireFault::TooLarge),
@@ -40,6 +40,7 @@ static FAULTS: [Fault; 37] = [
     Fault::Spool(SpoolFault::NotWritten),
     Fault::Spool(SpoolFault::NoRoom),
     Fault::Spool(SpoolFault::NotRead),
+    Fault::Spool(SpoolFault::TooManyOpen),
     Fault::Store(StoreFault::Clash),
     Fault::Store(StoreFault::NoIdentity),
     Fault::Store(StoreFault::UnknownIdentity),

@@ -4,7 +4,7 @@ use Rattle.std.specs.Prelude.{◌≡◌, ◌<◌, ◌≤◌, ◌+◌, ◌-◌, �
 use Rattle.std.specs.Prelude.{length}
 use Rattle.std.specs.List.{All, flat_map}
 use Rattle.std.specs.Io.KnownBytes.{Consumes, IsAtEnd}
-use Rattle.pgapply.specs.declared.misses.Misses.{Misses}
+use Rattle.pgapply.specs.Tallies.{Tally}
 use Rattle.pgapply.specs.Value.{Tables}
 use Rattle.pgsub_core.specs.declared.fault.Fault.{Fault}
 use Rattle.pgsub_core.specs.Subscriber.SubscriberValue.{SubscriberValue, Feeds, FeedsUntil}
@@ -43,7 +43,7 @@ module _ {C : Type 0} (holds : C → Tables → Type 0) (place : C → ℕ) (now
     pub are_read : AreRead unread rest pieces
     pub stops : FeedsUntil holds place now old (bytes_in pieces) new f
 
-module _ {C : Type 0} (holds : C → Tables → Type 0) (place : C → ℕ) (count : C → Misses) (now : ℤ) where
+module _ {C : Type 0} (holds : C → Tables → Type 0) (place : C → ℕ) (count : C → Tally) (now : ℤ) where
   -- the changes that find no row were counted, of all pieces; where there is none, nothing was
   abbrev pub CountsPieces : SubscriberValue C → List (List ℕ) → SubscriberValue C → Type 0
   CountsPieces old [] new = count new.applied.store ≡ count old.applied.store

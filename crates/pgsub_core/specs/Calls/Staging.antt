@@ -1,11 +1,13 @@
 -- What stands while the commits of a piece are staged in a store: what it holds, what a crash
 -- leaves, and what goes back where they can't be settled.
-use Rattle.std.specs.Prelude.{◌≡◌, ◌<◌, ◌≤◌, ◌⊎◌, ◌++◌, ℕ, List, length, take}
+use Rattle.std.specs.Prelude.{◌≡◌, ◌<◌, ◌≤◌, ◌⊎◌, ◌++◌, ℕ, List, length, take, Result, OnOk, OnErr}
+use Rattle.std.specs.Prelude.{IfErr}
 use Rattle.pgapply.specs.declared.fault.StoreFault.TheVariants as store
 use Rattle.pgapply.specs.Value.{Tables}
 use Rattle.pgapply.specs.Taken.{Settles, Stays}
 use Rattle.pgsub_core.specs.declared.fault.Fault.{Fault}
 use Rattle.pgsub_core.specs.declared.fault.Fault.TheVariants as fault
+use Rattle.pgsub_core.specs.Machine.Faults.{IsOfFeedingOver}
 use Rattle.pgsub_core.specs.Subscriber.Applied.{Applied, IsKept}
 
 -- more bytes may wait behind those that did
@@ -34,6 +36,20 @@ module _ {C : Type 0} (holds : C → Tables → Type 0) (place : C → ℕ) wher
       pub position : place new ≡ place old
       pub stays : serves new → Stays holds old new
       pub crash : is_honest new → (other : C) → reopens new other → reopens old other
+
+    -- What each call does to the store in which it stages: what is held is as it was, and what is
+    -- counted of it. After a fault nothing more is staged, nor counted; and without one it serves
+    -- on, while it is honest.
+    pub record Steps {M T : Type 0} (reach : C → ℕ) (counts stages_counts : C → M) (may_fail : Type 0) (result : Result T Fault)
+        (old new : C) : Type 0 where
+      pub rests : Rests old new
+      pub served : serves new → serves old
+      pub serves_on : is_honest new → serves old → OnOk result (serves new)
+      pub honest : is_honest new → is_honest old
+      pub counted : counts new ≡ counts old
+      pub uncounted : OnErr result (stages_counts new ≡ stages_counts old)
+      pub unstaged : OnErr result (reach new ≡ reach old)
+      pub own : IfErr result (IsOfFeedingOver may_fail)
 
     module _ (stages : C → Tables → Type 0) (reach : C → ℕ) where
       -- Where nothing was staged, this stood at the mark; from there on the piece may stop for want

@@ -26,8 +26,8 @@ held_after held (streamed_item.SubtransactionAbort subxid ∷ streamed) = held_a
 
 -- the items that survive of a transaction whose commit has come
 abbrev pub surviving_items : Completed → List Item
-surviving_items (WholeCommit xid lsn end items) = items
-surviving_items (StreamedCommit xid lsn end streamed) = items_of (held_after [] streamed)
+surviving_items (WholeCommit xid lsn end time items) = items
+surviving_items (StreamedCommit xid lsn end time streamed) = items_of (held_after [] streamed)
 
 -- the relation cache: by OID, what the last Relation message said
 abbrev pub RelationCache : Type 0

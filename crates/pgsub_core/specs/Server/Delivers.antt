@@ -16,10 +16,10 @@ use Rattle.pgsub_core.specs.Server.Stream.{commits_and_keepalives}
 
 -- the commit that came is this transaction's, and these of its items survive
 abbrev pub IsCommitOf : Transaction → Completed → List Item → Type 0
-IsCommitOf t (WholeCommit xid lsn end items) surviving =
-    (xid ≡ t.xid) × (lsn ≡ t.lsn) × (end ≡ t.end) × (surviving ≡ items)
-IsCommitOf t (StreamedCommit xid lsn end streamed) surviving =
-    (xid ≡ t.xid) × (lsn ≡ t.lsn) × (end ≡ t.end) × IsStreamOf t.work xid streamed surviving
+IsCommitOf t (WholeCommit xid lsn end time items) surviving =
+    (xid ≡ t.xid) × (lsn ≡ t.lsn) × (end ≡ t.end) × (time ≡ t.time) × (surviving ≡ items)
+IsCommitOf t (StreamedCommit xid lsn end time streamed) surviving =
+    (xid ≡ t.xid) × (lsn ≡ t.lsn) × (end ≡ t.end) × (time ≡ t.time) × IsStreamOf t.work xid streamed surviving
 
 -- only transactions that change no rows are left out
 abbrev pub ChangeNothing : List Transaction → Type 0

@@ -1,6 +1,6 @@
 -- Part of the statement. PostgreSQL documentation, Logical Decoding Concepts: a server's history,
 -- the transactions in commit order, and the rows that it gives.
-use Rattle.std.specs.Prelude.{◌<◌, ◌≤◌, ◌≢◌, ℕ, List, [], ◌∷◌, nat_le, nat_lt, Result}
+use Rattle.std.specs.Prelude.{◌<◌, ◌≤◌, ◌≢◌, ℕ, ℤ, List, [], ◌∷◌, nat_le, nat_lt, Result}
 use Rattle.std.specs.List.{flat_map, filter}
 use Rattle.std.specs.FinMap as map
 use Rattle.pgapply.specs.declared.fault.StoreFault.{StoreFault}
@@ -8,12 +8,14 @@ use Rattle.pgapply.specs.Value.{Tables}
 use Rattle.pgapply.specs.Apply.{Change, fold_changes}
 use Rattle.pgsub_core.specs.Server.Work.{Work, IsWork, surviving_changes, xids_of, AllDiffer}
 
--- a transaction: lsn is that of its commit record, end the place behind that record
+-- a transaction: lsn is that of its commit record, end the place behind that record, time when it
+-- was committed, in microseconds since 2000-01-01
 pub record Transaction : Type 0 where
   pub xid : ℕ
   pub work : Work
   pub lsn : ℕ
   pub end : ℕ
+  pub time : ℤ
 
 -- Commits stand one behind the other, from this LSN on.
 abbrev pub IsHistoryFrom : ℕ → List Transaction → Type 0

@@ -22,31 +22,31 @@ messages_in (Keepalive end clock reply ∷ sent) = messages_in sent
 -- what a message means for pairs, blocks and what is held
 pub data Kind : Type 0 where
   BeginsPair : (xid : ℕ) → Kind
-  CommitsPair : (lsn end : ℕ) → Kind
+  CommitsPair : (lsn end : ℕ) (time : ℤ) → Kind
   Holds : (subxid : Option ℕ) (item : Item) → Kind
   StartsBlock : (xid : ℕ) (first : Bool) → Kind
   StopsBlock : Kind
-  CommitsStream : (xid lsn end : ℕ) → Kind
+  CommitsStream : (xid lsn end : ℕ) (time : ℤ) → Kind
   AbortsStream : (xid subxid : ℕ) → Kind
   ChangesNothing : Kind
 
 abbrev pub kind : Message → Kind
 kind (message.Begin lsn time xid) = BeginsPair xid
-kind (message.Commit lsn end time) = CommitsPair lsn end
+kind (message.Commit lsn end time) = CommitsPair lsn end time
 kind (message.Origin lsn name) = ChangesNothing
 kind (message.TypeName xid oid namespace name) = ChangesNothing
 kind (message.Logical xid transactional lsn prefix content) = ChangesNothing
 kind (message.Item subxid item) = Holds subxid item
 kind (message.StreamStart xid first) = StartsBlock xid first
 kind message.StreamStop = StopsBlock
-kind (message.StreamCommit xid lsn end time) = CommitsStream xid lsn end
+kind (message.StreamCommit xid lsn end time) = CommitsStream xid lsn end time
 kind (message.StreamAbort xid subxid) = AbortsStream xid subxid
 
 -- Below, the messages before a place stand with the last of them first.
 
 abbrev pub pair_behind : Kind → Option ℕ → Option ℕ
 pair_behind (BeginsPair xid) pair = Some xid
-pair_behind (CommitsPair lsn end) pair = None
+pair_behind (CommitsPair lsn end time) pair = None
 pair_behind _ pair = pair
 
 -- the xid of the pair in which they end
@@ -97,12 +97,12 @@ streamed_since_first_segment xid (m ∷ before) = streamed_behind xid (block_of 
 -- a transaction whose commit has come: between Begin and Commit with its items, or in stream blocks
 -- with what was streamed
 pub data Completed : Type 0 where
-  WholeCommit : (xid lsn end : ℕ) (items : List Item) → Completed
-  StreamedCommit : (xid lsn end : ℕ) (streamed : List StreamedItem) → Completed
+  WholeCommit : (xid lsn end : ℕ) (time : ℤ) (items : List Item) → Completed
+  StreamedCommit : (xid lsn end : ℕ) (time : ℤ) (streamed : List StreamedItem) → Completed
 
 abbrev pub end_of : Completed → ℕ
-end_of (WholeCommit xid lsn end items) = end
-end_of (StreamedCommit xid lsn end streamed) = end
+end_of (WholeCommit xid lsn end time items) = end
+end_of (StreamedCommit xid lsn end time streamed) = end
 
 -- what moves a subscriber: a commit, or the end of a keepalive, which is quiet outside pairs and
 -- blocks
@@ -110,13 +110,14 @@ pub data CommitOrKeepalive : Type 0 where
   Committed : (completed : Completed) → CommitOrKeepalive
   KeepaliveEnd : (end : ℕ) (quiet : Bool) → CommitOrKeepalive
 
-abbrev pub pair_commit : Option ℕ → ℕ → ℕ → List Item → List CommitOrKeepalive
-pair_commit None lsn end items = []
-pair_commit (Some xid) lsn end items = Committed (WholeCommit xid lsn end items) ∷ []
+abbrev pub pair_commit : Option ℕ → ℕ → ℕ → ℤ → List Item → List CommitOrKeepalive
+pair_commit None lsn end time items = []
+pair_commit (Some xid) lsn end time items = Committed (WholeCommit xid lsn end time items) ∷ []
 
 abbrev pub commits_at : List Message → Kind → List CommitOrKeepalive
-commits_at before (CommitsPair lsn end) = pair_commit (pair_of before) lsn end (pair_items before)
-commits_at before (CommitsStream xid lsn end) = Committed (StreamedCommit xid lsn end (streamed_since_first_segment xid before)) ∷ []
+commits_at before (CommitsPair lsn end time) = pair_commit (pair_of before) lsn end time (pair_items before)
+commits_at before (CommitsStream xid lsn end time) =
+    Committed (StreamedCommit xid lsn end time (streamed_since_first_segment xid before)) ∷ []
 commits_at before _ = []
 
 abbrev pub commits_of : List Message → Message → List CommitOrKeepalive

@@ -69,6 +69,7 @@ spool_cause spool.Memory = NeverAnswered
 spool_cause spool.NotWritten = SpoolFailed
 spool_cause spool.NoRoom = SpoolFailed
 spool_cause spool.NotRead = SpoolFailed
+spool_cause spool.TooManyOpen = SpoolFailed
 
 -- Only opening a store answers NotAStore, unless the changes themselves had it.
 abbrev pub store_cause : StoreFault → Cause

@@ -59,8 +59,8 @@ NoneForeign (complete ∷ all_complete) [] = Unit {0}
 NoneForeign (complete ∷ all_complete) (bytes ∷ sessions) = (EndsForeign complete bytes → ⊥) × NoneForeign all_complete sessions
 
 abbrev pub end_by_kind : Kind → Option ℕ
-end_by_kind (CommitsPair lsn end) = Some end
-end_by_kind (CommitsStream xid lsn end) = Some end
+end_by_kind (CommitsPair lsn end time) = Some end
+end_by_kind (CommitsStream xid lsn end time) = Some end
 end_by_kind _ = None
 
 -- the end of the commit that the message is
@@ -78,6 +78,7 @@ IsAllowedFault history s m (fault.Spool spool.Memory) = ⊥
 IsAllowedFault history s m (fault.Spool spool.NotWritten) = ⊥
 IsAllowedFault history s m (fault.Spool spool.NoRoom) = ⊥
 IsAllowedFault history s m (fault.Spool spool.NotRead) = ⊥
+IsAllowedFault history s m (fault.Spool spool.TooManyOpen) = ⊥
 IsAllowedFault history s m (fault.Wire k) = ⊥
 IsAllowedFault history s m (fault.Decode k) = ⊥
 IsAllowedFault history s m (fault.Order k) = ⊥

@@ -32,7 +32,7 @@ returns-in-Err-announce-clause-stopped g c honest serves =
       part,
       drop c.in-Ok.taken c.args.piece.now,
       sym (take-append-drop c.in-Ok.taken c.args.piece.now),
-      part_unannounced it.holds it.place it.reopens it.serves it.missed _ c.args.subscriber.now c.feed_session.new.self
+      part_unannounced it.holds it.place it.reopens it.serves it.tally _ c.args.subscriber.now c.feed_session.new.self
           c.announce.new.subscriber part
           (record {
             feeds = c.in-Ok.ensures.fed (c.in-Ok.ensures.still_serves was serves);
@@ -46,7 +46,7 @@ pub returns-in-Ok-tell-clause-followed : goal.returns-in-Ok-tell-clause-followed
 returns-in-Ok-tell-clause-followed g c honest serves =
     let it = g.C.ReplicaStore in
     let was = subst it.is_honest (c.tell.ensures.store ∙ c.announce.ensures.store) honest in
-    part_followed it.holds it.place it.reopens it.serves it.missed _ c.args.subscriber.now c.feed_session.new.self c.announce.new.subscriber
+    part_followed it.holds it.place it.reopens it.serves it.tally _ c.args.subscriber.now c.feed_session.new.self c.announce.new.subscriber
     (take c.in-Ok.taken c.args.piece.now)
     (record {
       feeds = c.in-Ok.ensures.fed (c.in-Ok.ensures.still_serves was serves);
@@ -65,9 +65,9 @@ returns-in-Err-tell-clause-stopped g c honest serves =
       part,
       drop c.in-Ok.taken c.args.piece.now,
       sym (take-append-drop c.in-Ok.taken c.args.piece.now),
-      unwritten_part it.holds it.place it.reopens it.serves it.missed _ _ part c.args.subscriber.now c.tell.new.subscriber
+      unwritten_part it.holds it.place it.reopens it.serves it.tally _ _ part c.args.subscriber.now c.tell.new.subscriber
           c.in-Err-tell.fault c.in-Err-tell.ensures.unwritten.0
-          (part_untold it.holds it.place it.reopens it.serves it.missed _ c.args.subscriber.now c.feed_session.new.self
+          (part_untold it.holds it.place it.reopens it.serves it.tally _ c.args.subscriber.now c.feed_session.new.self
           c.announce.new.subscriber part
           (record {
             feeds = c.in-Ok.ensures.fed (c.in-Ok.ensures.still_serves was serves);
@@ -81,5 +81,5 @@ returns-in-Err-tell-clause-stopped g c honest serves =
 pub returns-in-Ok-tell-clause-unclosed : goal.returns-in-Ok-tell-clause-unclosed
 returns-in-Ok-tell-clause-unclosed g c =
     let it = g.C.ReplicaStore in
-    open_after it.holds it.place it.reopens it.serves it.missed c.has_ended-ends.result c.feed_session.new.self c.announce.new.subscriber
+    open_after it.holds it.place it.reopens it.serves it.tally c.has_ended-ends.result c.feed_session.new.self c.announce.new.subscriber
     c.tell.new.subscriber c.in_default.ensures.state c.in-Ok-tell.ensures.state c.in-Ok.ensures.open.1

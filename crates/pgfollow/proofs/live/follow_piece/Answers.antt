@@ -35,12 +35,12 @@ loop-taken-preserved g c =
           let old = c.args.subscriber.now in
           let mid = c.loop-taken.subscriber in
           let new = c.follow_part.new.subscriber in
-          subst (λ (p : List ℕ). FollowsPiece it.holds it.place it.reopens it.serves it.missed before wrote' p old new)
+          subst (λ (p : List ℕ). FollowsPiece it.holds it.place it.reopens it.serves it.tally before wrote' p old new)
           (sym (take-add taken count piece))
-          (piece_and it.holds it.place it.reopens it.serves it.missed before wrote wrote' (take taken piece) (take count (drop taken piece))
+          (piece_and it.holds it.place it.reopens it.serves it.tally before wrote wrote' (take taken piece) (take count (drop taken piece))
           old mid new (loop.8 was serves)
           (subst (λ (bytes : List ℕ).
-          IsFollowedPart it.holds it.place it.reopens it.serves it.missed wrote wrote' (take count bytes) mid new) (rest_of piece taken)
+          IsFollowedPart it.holds it.place it.reopens it.serves it.tally wrote wrote' (take count bytes) mid new) (rest_of piece taken)
           (part.followed honest (loop.7 was serves)))),
     )
 
@@ -59,7 +59,7 @@ returns-in-Err-clause-stopped g c honest serves =
       sym (take-append-drop taken piece),
       loop.8 was serves,
       subst (λ (bytes : List ℕ).
-          StopsFront it.holds it.place it.reopens it.serves it.missed wrote (g.W.Write.contents c.follow_part.new.link.writer) bytes
+          StopsFront it.holds it.place it.reopens it.serves it.tally wrote (g.W.Write.contents c.follow_part.new.link.writer) bytes
           c.loop-taken.subscriber c.follow_part.new.subscriber c.in-Err.fault) (rest_of piece taken)
           (c.in-Err.ensures.stopped honest (loop.7 was serves)),
     )

@@ -10,7 +10,7 @@ invariant-loop-taken g l =
     × (g.C.ReplicaStore.is_honest l.subscriber.applied.store → g.C.ReplicaStore.serves l.fn.subscriber.applied.store
     → g.C.ReplicaStore.serves l.subscriber.applied.store)
     × (g.C.ReplicaStore.is_honest l.subscriber.applied.store → g.C.ReplicaStore.serves l.fn.subscriber.applied.store
-    → FollowsPiece g.C.ReplicaStore.holds g.C.ReplicaStore.place g.C.ReplicaStore.reopens g.C.ReplicaStore.serves g.C.ReplicaStore.missed
+    → FollowsPiece g.C.ReplicaStore.holds g.C.ReplicaStore.place g.C.ReplicaStore.reopens g.C.ReplicaStore.serves g.C.ReplicaStore.tally
     (g.W.Write.contents l.fn.link.writer) (g.W.Write.contents l.link.writer) (take l.taken l.piece) l.fn.subscriber l.subscriber)
 
 abbrev pub decreases-loop-taken : goal.decreases-loop-taken

@@ -11,7 +11,7 @@ loop-link-init g c = (
   λ honest. honest,
   λ honest serves. serves,
   λ honest serves. live_none g.C.ReplicaStore.holds g.C.ReplicaStore.place g.C.ReplicaStore.reopens g.C.ReplicaStore.serves
-      g.C.ReplicaStore.missed _ _ c.args.subscriber.now,
+      g.C.ReplicaStore.tally _ _ c.args.subscriber.now,
 )
 
 pub loop-link-preserved : goal.loop-link-preserved
@@ -28,7 +28,7 @@ loop-link-preserved g c =
       λ honest serves. part.still_serves honest (loop.5 (c.follow_piece.ensures.honest honest) serves),
       λ honest serves.
           let was = c.follow_piece.ensures.honest honest in
-          live_turn it.holds it.place it.reopens it.serves it.missed _ _ _ _ _ _ _ _ (take c.in-Some.count c.read_piece.new.room)
+          live_turn it.holds it.place it.reopens it.serves it.tally _ _ _ _ _ _ _ _ (take c.in-Some.count c.read_piece.new.room)
           c.args.subscriber.now c.loop-link.subscriber c.follow_piece.new.subscriber
           (short_front c.in-Some.count c.read_piece.new.room (c.read_piece.ensures.length ∙ loop.2))
           (ap g.R.Read.remaining c.follow_piece.ensures.read.0) (ap g.W.Write.contents c.read_piece.ensures.written.0) (loop.6 was serves)
@@ -41,7 +41,7 @@ returns-in-Err-clause-followed g c honest serves =
     let loop = c.loop-link.invariant in
     let read = c.in-Some.ensures.some in
     let was = c.follow_piece.ensures.honest honest in
-    turn_stops it.holds it.place it.reopens it.serves it.missed _ _ _ _ _ _ _ _ (take c.in-Some.count c.read_piece.new.room)
+    turn_stops it.holds it.place it.reopens it.serves it.tally _ _ _ _ _ _ _ _ (take c.in-Some.count c.read_piece.new.room)
     c.args.subscriber.now c.loop-link.subscriber c.follow_piece.new.subscriber c.in-Err.fault c.follow_piece.new.link.reads
     (short_front c.in-Some.count c.read_piece.new.room (c.read_piece.ensures.length ∙ loop.2))
     (ap g.R.Read.remaining c.follow_piece.ensures.read.0) (ap g.W.Write.contents c.read_piece.ensures.written.0) (loop.6 was serves) read.1

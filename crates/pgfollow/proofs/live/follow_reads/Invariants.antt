@@ -9,7 +9,7 @@ invariant-loop-link g l =
     × (g.C.ReplicaStore.is_honest l.subscriber.applied.store → g.C.ReplicaStore.serves l.fn.subscriber.applied.store
     → g.C.ReplicaStore.serves l.subscriber.applied.store)
     × (g.C.ReplicaStore.is_honest l.subscriber.applied.store → g.C.ReplicaStore.serves l.fn.subscriber.applied.store
-    → LiveSteps g.C.ReplicaStore.holds g.C.ReplicaStore.place g.C.ReplicaStore.reopens g.C.ReplicaStore.serves g.C.ReplicaStore.missed
+    → LiveSteps g.C.ReplicaStore.holds g.C.ReplicaStore.place g.C.ReplicaStore.reopens g.C.ReplicaStore.serves g.C.ReplicaStore.tally
     (g.R.Read.remaining l.fn.link.reader) (g.R.Read.remaining l.link.reader) []
     (g.W.Write.contents l.fn.link.writer) (g.W.Write.contents l.link.writer) l.fn.subscriber l.subscriber)
 

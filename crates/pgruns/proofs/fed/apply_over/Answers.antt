@@ -26,13 +26,14 @@ returns-in-Ok-clause-ran g c =
     let e = c.apply_recorded-status.ensures.ends in
     rw c.in-Some.is (λ run. (
       e.0,
-      e.1,
-      e.3,
+      e.2,
+      e.4,
       λ serves. (
         c.in-Ok.feed,
         subst (λ (p : ℕ). g.B.FeedOpening.opens c.in-Some.feed p c.in-Ok.feed) c.position.ensures.position
             c.in-Ok.ensures.opened,
-        record { prints = e.2.prints; kept = e.2.kept; left = e.2.left; crash = λ honest. e.2.crash honest (serves honest) },
+        e.1,
+        record { prints = e.3.prints; kept = e.3.kept; left = e.3.left; crash = λ honest. e.3.crash honest (serves honest) },
       ),
     ))
 

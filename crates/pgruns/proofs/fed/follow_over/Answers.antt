@@ -1,5 +1,5 @@
 use Rattle.std.proofs.Common.{ℕ, refl, subst}
-use Rattle.pgsub_cli.proofs.Parts.{ledger_of, store_of}
+use Rattle.pgsub_cli.proofs.Parts.{from_of, ledger_of, store_of}
 use Rattle.pgruns.proofs.fed.follow_over.Goals as goal
 
 pub returns-in-None-clause-unfed : goal.returns-in-None-clause-unfed
@@ -37,13 +37,15 @@ returns-in-Ok-clause-ran g c =
         subst (λ (p : ℕ). g.B.FeedOpening.opens c.in-Some.feed p c.in-Ok.feed) c.position.ensures.position
             c.in-Ok.ensures.opened,
         λ kept.
-            let f = e.6 kept.0 kept.1 (serves kept) in (
+            let all = e.6 kept.0 kept.1 (serves kept) in
+            let f = all.1 in (
               f.0,
               f.1,
-              store_of f.0.store c.args.store c.in-Ok.feed f.2,
-              ledger_of f.0.store c.args.store c.in-Ok.feed f.2,
-              store_of f.1.store done.result.1 done.result.2 f.3,
-              ledger_of f.1.store done.result.1 done.result.2 f.3,
+              store_of f.0.store c.args.store c.in-Ok.feed c.args.store.position f.2,
+              ledger_of f.0.store c.args.store c.in-Ok.feed c.args.store.position f.2,
+              from_of f.0.store c.args.store c.in-Ok.feed c.args.store.position f.2,
+              store_of f.1.store done.result.1 done.result.2 all.0 f.3,
+              ledger_of f.1.store done.result.1 done.result.2 all.0 f.3,
               f.4,
             ),
       ),

@@ -23,7 +23,7 @@ returns-in-Ok-clause-ran g c run =
         ended = applied.result.1;
         found = λ honest. c.in-Ok.ensures.stood (applied.ensures.honest honest);
         serves = λ honest. c.in-Ok.ensures.serves (applied.ensures.honest honest);
-        unmissed = ap (λ (a : Group). a.missed) c.in-Ok.ensures.begun;
+        untaken = ap (λ (a : Group). a.tally) c.in-Ok.ensures.begun;
         run = e.3 (λ honest. c.in-Ok.ensures.serves (applied.ensures.honest honest));
         closes = closed.ensures.closes;
       },
@@ -48,7 +48,7 @@ returns-in-Ok-clause-unfed g c unfed =
         ended = applied.result.1;
         found = λ honest. c.in-Ok.ensures.stood (applied.ensures.honest honest);
         serves = λ honest. c.in-Ok.ensures.serves (applied.ensures.honest honest);
-        unmissed = ap (λ (a : Group). a.missed) c.in-Ok.ensures.begun;
+        untaken = ap (λ (a : Group). a.tally) c.in-Ok.ensures.begun;
         run = e.3;
         closes = closed.ensures.closes;
       },

@@ -24,7 +24,7 @@ returns-in-Ok-clause-ran g c =
         ended = c.dump_store-status.result.1;
         found = λ honest. c.in-Ok.ensures.stood (dumped.honest honest);
         serves = λ honest. c.in-Ok.ensures.serves (dumped.honest honest);
-        unmissed = ap (λ (a : Group). a.missed) c.in-Ok.ensures.begun;
+        untaken = ap (λ (a : Group). a.tally) c.in-Ok.ensures.begun;
         run = (e.2, dumped.unchanged, dumped.position, dumped.crash);
         closes = c.close_told-fault.ensures.closes;
       },

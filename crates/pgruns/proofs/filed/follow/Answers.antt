@@ -26,7 +26,7 @@ returns-in-Ok-clause-ran g c loaded run =
         ended = followed.result.1;
         found = λ kept. c.in-Ok.ensures.stood (followed.ensures.honest kept);
         serves = λ kept. c.in-Ok.ensures.serves (followed.ensures.honest kept);
-        unmissed = ap (λ (a : Group). a.missed) c.in-Ok.ensures.begun;
+        untaken = ap (λ (a : Group). a.tally) c.in-Ok.ensures.begun;
         run = (
           c.followed_status.ensures ∙ ap₂ (status_closed status_of_unclosed) e.1 closed.ensures.fault,
           e.6 (λ kept. c.in-Ok.ensures.serves (followed.ensures.honest kept)),
@@ -55,7 +55,7 @@ returns-in-Ok-clause-unfed g c loaded unfed =
         ended = followed.result.1;
         found = λ kept. c.in-Ok.ensures.stood (followed.ensures.honest kept);
         serves = λ kept. c.in-Ok.ensures.serves (followed.ensures.honest kept);
-        unmissed = ap (λ (a : Group). a.missed) c.in-Ok.ensures.begun;
+        untaken = ap (λ (a : Group). a.tally) c.in-Ok.ensures.begun;
         run = e.6;
         closes = closed.ensures.closes;
       },
@@ -80,7 +80,7 @@ returns-in-Ok-clause-unloaded g c =
         ended = followed.result.1;
         found = λ kept. c.in-Ok.ensures.stood (followed.ensures.honest kept);
         serves = λ kept. c.in-Ok.ensures.serves (followed.ensures.honest kept);
-        unmissed = ap (λ (a : Group). a.missed) c.in-Ok.ensures.begun;
+        untaken = ap (λ (a : Group). a.tally) c.in-Ok.ensures.begun;
         run = e.5;
         closes = closed.ensures.closes;
       },

@@ -11,7 +11,7 @@ returns-clause-ends g c =
     let parts = c.into_parts-store in
     let e = c.follow_with-status.ensures.ends in (
       e.0,
-      subst (λ (it : g.row.C.Denot). c.follow_with-status.result.0 ≡ status_of_follow (s.missed it).count e.0)
+      subst (λ (it : g.row.C.Denot). c.follow_with-status.result.0 ≡ status_of_follow (s.tally it).misses.count e.0)
           (sym parts.ensures.store) e.1,
       e.2,
       e.3,

@@ -6,7 +6,7 @@ pub returns-clause-ends : goal.returns-clause-ends
 returns-clause-ends g c =
     let e = c.run_buffered-status.ensures.ends in (
       e.0,
-      subst (λ (s : g.row.C.Denot). c.run_buffered-status.result.0 ≡ status_of_follow (g.C.ReplicaStore.missed s).count e.0)
+      subst (λ (s : g.row.C.Denot). c.run_buffered-status.result.0 ≡ status_of_follow (g.C.ReplicaStore.tally s).misses.count e.0)
           (sym c.into_store.ensures) e.1,
       e.2,
       e.3,

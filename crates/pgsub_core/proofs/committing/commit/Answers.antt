@@ -1,10 +1,10 @@
-use Rattle.std.proofs.Common.{◌≡◌, ◌<◌, true, false, refl, arith}
+use Rattle.std.proofs.Common.{◌≡◌, ◌<◌, true, false, Ok, refl, arith}
 use Rattle.std.specs.Prelude.{nat_lt}
 use Rattle.std.proofs.lemmas.Bool.Decides.{nat_tests}
 use Rattle.pgspool.specs.Labels.{items_of, held_of}
 use Rattle.pgsub_core.specs.Machine.Faults.{fault_of_store}
 use Rattle.pgsub_core.proofs.DescribedChanges.{on_residual, on_told}
-use Rattle.pgsub_core.proofs.Marks.{rests_same}
+use Rattle.pgsub_core.proofs.Stepping.{steps_none}
 use Rattle.pgsub_core.proofs.Commits.{commits_again, commits_changes, refuses_work}
 use Rattle.pgsub_core.proofs.Commits.{refuses_undescribed}
 use Rattle.pgsub_core.proofs.committing.commit.Goals as goal
@@ -79,10 +79,11 @@ returns-in_err-stage-clause-why g c loaded honest serves =
     c.args.book.now c.describe.new.book lt less c.in_ok-work.work.changes c.in_err-stage.field-0.0
     (c.in_ok-work.ensures.changes loaded) (λ tables h. h) (c.in_err-stage.ensures.why honest serves))
 
-pub returns-then-le-clause-rests : goal.returns-then-le-clause-rests
-returns-then-le-clause-rests g c =
+pub returns-then-le-clause-steps : goal.returns-then-le-clause-steps
+returns-then-le-clause-steps g c =
     let it = g.C.ReplicaStore in
-    rests_same it.holds it.place it.reopens it.serves it.is_honest c.args.store.now c.args.store.now refl
+    steps_none it.holds it.place it.reopens it.serves it.is_honest it.reach it.tally it.stages_tally g.P.Spools.may_fail
+    (Ok c.args.confirmed) c.args.store.now tt
 
 pub returns-then-le-clause-counts : goal.returns-then-le-clause-counts
 returns-then-le-clause-counts g c loaded serves tables h =

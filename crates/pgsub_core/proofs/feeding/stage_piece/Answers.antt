@@ -45,7 +45,7 @@ loop-applier-init g c = let it = g.C.ReplicaStore in (
       c.args.applier.now 0
       (start_to it.serves it.stages it.reach _ c.args.deframer.now c.args.applier.now c.args.piece.now c.requires.waits c.requires.sound)
       own)),
-  counted_start it.serves it.stages it.reach it.stages_missed _ c.args.deframer.now c.feed_frames.new.deframer c.args.applier.now
+  counted_start it.serves it.stages it.reach it.stages_tally _ c.args.deframer.now c.feed_frames.new.deframer c.args.applier.now
       c.args.piece.now c.in_ok-taken.taken c.requires.waits c.requires.sound c.in_ok-taken.ensures.fed,
   refl,
 )
@@ -67,17 +67,18 @@ loop-applier-preserved g c = let it = g.C.ReplicaStore in (
       c.take_whole.new.deframer c.feed_frames-in-loop-applier.new.deframer c.args.applier.now c.loop-applier.applier
       c.take_whole.new.applier
       c.args.piece.now c.loop-applier.taken c.in_ok-taken-2.field-0 c.loop-applier.invariant.2
-      (c.in_ok-take_whole.ensures.released c.if-branch.true) c.take_whole.ensures.served
+      (c.in_ok-take_whole.ensures.released c.if-branch.true) c.take_whole.ensures.steps.served
       (λ serves f stands. c.in_ok-take_whole.ensures.goes serves c.if-branch.true f stands)
       (subst (λ (bytes : List ℕ).
       IsFed c.take_whole.new.deframer bytes (Ok c.in_ok-taken-2.field-0) c.feed_frames-in-loop-applier.new.deframer)
       (rest_of c.args.piece.now c.loop-applier.taken) c.in_ok-taken-2.ensures.fed),
-  λ serves. c.loop-applier.invariant.3 (c.take_whole.ensures.served serves),
-  λ honest. c.loop-applier.invariant.4 (c.take_whole.ensures.honest honest),
-  λ honest serves. c.in_ok-take_whole.ensures.open honest (c.loop-applier.invariant.5 (c.take_whole.ensures.honest honest) serves),
+  λ serves. c.loop-applier.invariant.3 (c.take_whole.ensures.steps.served serves),
+  λ honest. c.loop-applier.invariant.4 (c.take_whole.ensures.steps.honest honest),
+  λ honest serves. c.in_ok-take_whole.ensures.steps.serves_on honest
+      (c.loop-applier.invariant.5 (c.take_whole.ensures.steps.honest honest) serves),
   rests_then it.holds it.place it.reopens it.serves it.is_honest c.args.applier.now.store c.loop-applier.applier.store
-      c.take_whole.new.applier.store c.loop-applier.invariant.6 c.take_whole.ensures.rests
-      c.take_whole.ensures.served c.take_whole.ensures.honest,
+      c.take_whole.new.applier.store c.loop-applier.invariant.6 c.take_whole.ensures.steps.rests
+      c.take_whole.ensures.steps.served c.take_whole.ensures.steps.honest,
   renewed it.holds it.place it.reopens it.serves it.is_honest it.stages it.reach _ c.args.applier.now.store c.take_whole.new.applier
       c.loop-applier.mark.confirmed c.loop-applier.mark.received c.loop-applier.mark.replies
       c.renew-in-loop-applier.new.mark.confirmed c.renew-in-loop-applier.new.mark.received c.renew-in-loop-applier.new.mark.replies
@@ -85,22 +86,22 @@ loop-applier-preserved g c = let it = g.C.ReplicaStore in (
       (marked_frame it.holds it.place it.reopens it.serves it.is_honest it.stages it.reach _ c.args.deframer.now c.args.applier.now
       c.args.piece.now c.loop-applier.deframer c.loop-applier.applier c.take_whole.new.applier
       c.loop-applier.taken c.loop-applier.mark.confirmed c.loop-applier.mark.received c.loop-applier.mark.replies c.loop-applier.invariant.7
-      c.loop-applier.invariant.2 c.take_whole.ensures.rests c.loop-applier.invariant.6
-      c.take_whole.ensures.grows c.take_whole.ensures.settings c.take_whole.ensures.served c.take_whole.ensures.honest
+      c.loop-applier.invariant.2 c.take_whole.ensures.steps.rests c.loop-applier.invariant.6
+      c.take_whole.ensures.grows c.take_whole.ensures.settings c.take_whole.ensures.steps.served c.take_whole.ensures.steps.honest
       c.loop-applier.invariant.5
       (λ own further. let released = c.in_ok-take_whole.ensures.released c.if-branch.true in
       (released.frame, released.stood, c.in_ok-take_whole.ensures.goes own c.if-branch.true released.frame released.stood))
-      (λ honest own further. c.in_ok-take_whole.ensures.open honest own)),
-  counted_one it.serves it.stages it.reach it.stages_missed _ c.args.deframer.now c.loop-applier.deframer c.take_whole.new.deframer
+      (λ honest own further. c.in_ok-take_whole.ensures.steps.serves_on honest own)),
+  counted_one it.serves it.stages it.reach it.stages_tally _ c.args.deframer.now c.loop-applier.deframer c.take_whole.new.deframer
       c.args.applier.now c.loop-applier.applier c.take_whole.new.applier c.args.piece.now c.loop-applier.taken c.loop-applier.invariant.8
-      (c.in_ok-take_whole.ensures.released c.if-branch.true) c.take_whole.ensures.served
+      (c.in_ok-take_whole.ensures.released c.if-branch.true) c.take_whole.ensures.steps.served
       (λ own frame stands. c.in_ok-take_whole.ensures.goes own c.if-branch.true frame stands)
       (λ own frame stands. c.in_ok-take_whole.ensures.counts own c.if-branch.true frame stands) c.feed_frames-in-loop-applier.new.deframer
       c.in_ok-taken-2.field-0
       (subst (λ (bytes : List ℕ).
       IsFed c.take_whole.new.deframer bytes (Ok c.in_ok-taken-2.field-0) c.feed_frames-in-loop-applier.new.deframer)
       (rest_of c.args.piece.now c.loop-applier.taken) c.in_ok-taken-2.ensures.fed),
-  c.take_whole.ensures.missed ∙ c.loop-applier.invariant.9,
+  c.take_whole.ensures.steps.counted ∙ c.loop-applier.invariant.9,
 )
 
 pub returns-clause-fed : goal.returns-clause-fed
@@ -130,7 +131,7 @@ returns-then-is_done-clause-fed g c serves =
     c.take_whole.new.deframer c.take_whole.new.applier) (to_z-of_z w64 c.args.now c.ranges.now)
     (fed_front it.serves it.stages it.reach _ c.args.deframer.now c.loop-applier.deframer c.take_whole.new.deframer c.args.applier.now
     c.loop-applier.applier c.take_whole.new.applier c.args.piece.now c.loop-applier.taken c.loop-applier.invariant.2
-    (c.in_ok-take_whole.ensures.released c.if-branch.true) c.take_whole.ensures.served
+    (c.in_ok-take_whole.ensures.released c.if-branch.true) c.take_whole.ensures.steps.served
     (λ own f stands. c.in_ok-take_whole.ensures.goes own c.if-branch.true f stands) serves)
 
 pub returns-then-is_done-clause-waits : goal.returns-then-is_done-clause-waits
@@ -169,7 +170,7 @@ returns-in_err-take_whole-clause-refused g c serves =
     (stops_by_frame g.C.ReplicaStore.serves g.C.ReplicaStore.stages g.C.ReplicaStore.reach _ c.args.deframer.now c.args.applier.now
     c.args.piece.now c.loop-applier.deframer c.loop-applier.applier c.take_whole.new.applier c.loop-applier.taken
     c.loop-applier.invariant.2
-    (c.take_whole.ensures.served serves) f stopped.0 stopped.1 stopped.2))
+    (c.take_whole.ensures.steps.served serves) f stopped.0 stopped.1 stopped.2))
 
 pub returns-in_err-taken-2-clause-refused : goal.returns-in_err-taken-2-clause-refused
 returns-in_err-taken-2-clause-refused g c serves =
@@ -189,7 +190,8 @@ returns-in_err-taken-2-clause-refused g c serves =
     (released_to g.C.ReplicaStore.serves g.C.ReplicaStore.stages g.C.ReplicaStore.reach _ c.args.deframer.now c.args.applier.now
     c.args.piece.now c.loop-applier.deframer c.take_whole.new.deframer c.loop-applier.applier c.take_whole.new.applier
     c.loop-applier.taken to released
-    c.take_whole.ensures.served (λ own frame stands. c.in_ok-take_whole.ensures.goes own c.if-branch.true frame stands)) serves sound f
+    c.take_whole.ensures.steps.served (λ own frame stands. c.in_ok-take_whole.ensures.goes own c.if-branch.true frame stands)) serves
+    sound f
     refused))
 
 pub returns-in_err-taken-clause-why : goal.returns-in_err-taken-clause-why
@@ -209,7 +211,7 @@ pub returns-in_err-take_whole-clause-why : goal.returns-in_err-take_whole-clause
 returns-in_err-take_whole-clause-why g c honest serves =
     let it = g.C.ReplicaStore in
     let f = c.in_err-take_whole.field-0.0 in
-    let own = c.loop-applier.invariant.5 (c.take_whole.ensures.honest honest) serves in
+    let own = c.loop-applier.invariant.5 (c.take_whole.ensures.steps.honest honest) serves in
     let stopped = c.in_err-take_whole.ensures.why honest own in
     on_residual c.from_residual-in_err-take_whole.result f _ c.from_residual-in_err-take_whole.ensures.1 (
       c.loop-applier.applier,
@@ -221,7 +223,7 @@ returns-in_err-take_whole-clause-why g c honest serves =
           own f stopped.0 stopped.1 stopped.2),
       λ none. head_held it.holds it.place it.reopens it.serves it.is_honest it.stages it.reach _ c.args.applier.now.store
           c.loop-applier.applier c.take_whole.new.applier _ _ _ c.loop-applier.invariant.7 c.in_err-take_whole.ensures.kept.position
-          c.take_whole.ensures.rests.position none,
+          c.take_whole.ensures.steps.rests.position none,
     )
 
 pub returns-in_err-taken-2-clause-why : goal.returns-in_err-taken-2-clause-why
@@ -244,8 +246,9 @@ returns-in_err-taken-2-clause-why g c honest serves =
           c.feed_frames-in-loop-applier.new.deframer c.take_whole.new.applier c.loop-applier.taken
           (released_to it.serves it.stages it.reach _ c.args.deframer.now c.args.applier.now c.args.piece.now c.loop-applier.deframer
           c.take_whole.new.deframer c.loop-applier.applier c.take_whole.new.applier c.loop-applier.taken to released
-          c.take_whole.ensures.served (λ own frame stands. c.in_ok-take_whole.ensures.goes own c.if-branch.true frame stands))
-          (c.in_ok-take_whole.ensures.open honest (c.loop-applier.invariant.5 (c.take_whole.ensures.honest honest) serves)) sound f
+          c.take_whole.ensures.steps.served (λ own frame stands. c.in_ok-take_whole.ensures.goes own c.if-branch.true frame stands))
+          (c.in_ok-take_whole.ensures.steps.serves_on honest
+          (c.loop-applier.invariant.5 (c.take_whole.ensures.steps.honest honest) serves)) sound f
           refused),
       λ none. head_held it.holds it.place it.reopens it.serves it.is_honest it.stages it.reach _ c.args.applier.now.store
           c.take_whole.new.applier c.take_whole.new.applier _ _ _
@@ -256,12 +259,12 @@ returns-in_err-taken-2-clause-why g c honest serves =
           (marked_frame it.holds it.place it.reopens it.serves it.is_honest it.stages it.reach _ c.args.deframer.now c.args.applier.now
           c.args.piece.now c.loop-applier.deframer c.loop-applier.applier c.take_whole.new.applier
           c.loop-applier.taken c.loop-applier.mark.confirmed c.loop-applier.mark.received c.loop-applier.mark.replies
-          c.loop-applier.invariant.7 c.loop-applier.invariant.2 c.take_whole.ensures.rests c.loop-applier.invariant.6
-          c.take_whole.ensures.grows c.take_whole.ensures.settings c.take_whole.ensures.served c.take_whole.ensures.honest
+          c.loop-applier.invariant.7 c.loop-applier.invariant.2 c.take_whole.ensures.steps.rests c.loop-applier.invariant.6
+          c.take_whole.ensures.grows c.take_whole.ensures.settings c.take_whole.ensures.steps.served c.take_whole.ensures.steps.honest
           c.loop-applier.invariant.5
           (λ own further. let released = c.in_ok-take_whole.ensures.released c.if-branch.true in
           (released.frame, released.stood, c.in_ok-take_whole.ensures.goes own c.if-branch.true released.frame released.stood))
-          (λ honest own further. c.in_ok-take_whole.ensures.open honest own))) refl refl none,
+          (λ honest own further. c.in_ok-take_whole.ensures.steps.serves_on honest own))) refl refl none,
     )
 
 pub returns-then-is_done-clause-marked : goal.returns-then-is_done-clause-marked
@@ -280,21 +283,22 @@ returns-then-is_done-clause-marked g c =
     (marked_frame it.holds it.place it.reopens it.serves it.is_honest it.stages it.reach _ c.args.deframer.now c.args.applier.now
     c.args.piece.now c.loop-applier.deframer c.loop-applier.applier c.take_whole.new.applier
     c.loop-applier.taken c.loop-applier.mark.confirmed c.loop-applier.mark.received c.loop-applier.mark.replies c.loop-applier.invariant.7
-    c.loop-applier.invariant.2 c.take_whole.ensures.rests c.loop-applier.invariant.6
-    c.take_whole.ensures.grows c.take_whole.ensures.settings c.take_whole.ensures.served c.take_whole.ensures.honest
+    c.loop-applier.invariant.2 c.take_whole.ensures.steps.rests c.loop-applier.invariant.6
+    c.take_whole.ensures.grows c.take_whole.ensures.settings c.take_whole.ensures.steps.served c.take_whole.ensures.steps.honest
     c.loop-applier.invariant.5
     (λ own further. let released = c.in_ok-take_whole.ensures.released c.if-branch.true in
     (released.frame, released.stood, c.in_ok-take_whole.ensures.goes own c.if-branch.true released.frame released.stood))
-    (λ honest own further. c.in_ok-take_whole.ensures.open honest own)))
+    (λ honest own further. c.in_ok-take_whole.ensures.steps.serves_on honest own)))
     (rests_then it.holds it.place it.reopens it.serves it.is_honest c.args.applier.now.store c.loop-applier.applier.store
-    c.take_whole.new.applier.store c.loop-applier.invariant.6 c.take_whole.ensures.rests
-    c.take_whole.ensures.served c.take_whole.ensures.honest)
-    (λ honest serves. c.in_ok-take_whole.ensures.open honest (c.loop-applier.invariant.5 (c.take_whole.ensures.honest honest) serves))
+    c.take_whole.new.applier.store c.loop-applier.invariant.6 c.take_whole.ensures.steps.rests
+    c.take_whole.ensures.steps.served c.take_whole.ensures.steps.honest)
+    (λ honest serves. c.in_ok-take_whole.ensures.steps.serves_on honest
+    (c.loop-applier.invariant.5 (c.take_whole.ensures.steps.honest honest) serves))
     (λ own. piece_stands it.serves it.stages it.reach _ c.args.deframer.now c.args.applier.now c.args.piece.now c.take_whole.new.deframer
     c.take_whole.new.applier c.loop-applier.taken
     (released_to it.serves it.stages it.reach _ c.args.deframer.now c.args.applier.now c.args.piece.now c.loop-applier.deframer
     c.take_whole.new.deframer c.loop-applier.applier c.take_whole.new.applier c.loop-applier.taken c.loop-applier.invariant.2
-    (c.in_ok-take_whole.ensures.released c.if-branch.true) c.take_whole.ensures.served
+    (c.in_ok-take_whole.ensures.released c.if-branch.true) c.take_whole.ensures.steps.served
     (λ own frame stands. c.in_ok-take_whole.ensures.goes own c.if-branch.true frame stands)) own))
 
 pub returns-in_err-taken-2-clause-marked : goal.returns-in_err-taken-2-clause-marked
@@ -313,21 +317,22 @@ returns-in_err-taken-2-clause-marked g c =
     (marked_frame it.holds it.place it.reopens it.serves it.is_honest it.stages it.reach _ c.args.deframer.now c.args.applier.now
     c.args.piece.now c.loop-applier.deframer c.loop-applier.applier c.take_whole.new.applier
     c.loop-applier.taken c.loop-applier.mark.confirmed c.loop-applier.mark.received c.loop-applier.mark.replies c.loop-applier.invariant.7
-    c.loop-applier.invariant.2 c.take_whole.ensures.rests c.loop-applier.invariant.6
-    c.take_whole.ensures.grows c.take_whole.ensures.settings c.take_whole.ensures.served c.take_whole.ensures.honest
+    c.loop-applier.invariant.2 c.take_whole.ensures.steps.rests c.loop-applier.invariant.6
+    c.take_whole.ensures.grows c.take_whole.ensures.settings c.take_whole.ensures.steps.served c.take_whole.ensures.steps.honest
     c.loop-applier.invariant.5
     (λ own further. let released = c.in_ok-take_whole.ensures.released c.if-branch.true in
     (released.frame, released.stood, c.in_ok-take_whole.ensures.goes own c.if-branch.true released.frame released.stood))
-    (λ honest own further. c.in_ok-take_whole.ensures.open honest own)))
+    (λ honest own further. c.in_ok-take_whole.ensures.steps.serves_on honest own)))
     (rests_then it.holds it.place it.reopens it.serves it.is_honest c.args.applier.now.store c.loop-applier.applier.store
-    c.take_whole.new.applier.store c.loop-applier.invariant.6 c.take_whole.ensures.rests
-    c.take_whole.ensures.served c.take_whole.ensures.honest)
-    (λ honest serves. c.in_ok-take_whole.ensures.open honest (c.loop-applier.invariant.5 (c.take_whole.ensures.honest honest) serves))
+    c.take_whole.new.applier.store c.loop-applier.invariant.6 c.take_whole.ensures.steps.rests
+    c.take_whole.ensures.steps.served c.take_whole.ensures.steps.honest)
+    (λ honest serves. c.in_ok-take_whole.ensures.steps.serves_on honest
+    (c.loop-applier.invariant.5 (c.take_whole.ensures.steps.honest honest) serves))
     (λ own. piece_stands it.serves it.stages it.reach _ c.args.deframer.now c.args.applier.now c.args.piece.now c.take_whole.new.deframer
     c.take_whole.new.applier c.loop-applier.taken
     (released_to it.serves it.stages it.reach _ c.args.deframer.now c.args.applier.now c.args.piece.now c.loop-applier.deframer
     c.take_whole.new.deframer c.loop-applier.applier c.take_whole.new.applier c.loop-applier.taken c.loop-applier.invariant.2
-    (c.in_ok-take_whole.ensures.released c.if-branch.true) c.take_whole.ensures.served
+    (c.in_ok-take_whole.ensures.released c.if-branch.true) c.take_whole.ensures.steps.served
     (λ own frame stands. c.in_ok-take_whole.ensures.goes own c.if-branch.true frame stands)) own))
 
 pub returns-clause-marked : goal.returns-clause-marked
@@ -341,11 +346,11 @@ returns-clause-marked g c =
     (marked_frame it.holds it.place it.reopens it.serves it.is_honest it.stages it.reach _ c.args.deframer.now c.args.applier.now
     c.args.piece.now c.loop-applier.deframer c.loop-applier.applier c.take_whole.new.applier
     c.loop-applier.taken c.loop-applier.mark.confirmed c.loop-applier.mark.received c.loop-applier.mark.replies c.loop-applier.invariant.7
-    c.loop-applier.invariant.2 c.take_whole.ensures.rests c.loop-applier.invariant.6
-    c.take_whole.ensures.grows c.take_whole.ensures.settings c.take_whole.ensures.served c.take_whole.ensures.honest
+    c.loop-applier.invariant.2 c.take_whole.ensures.steps.rests c.loop-applier.invariant.6
+    c.take_whole.ensures.grows c.take_whole.ensures.settings c.take_whole.ensures.steps.served c.take_whole.ensures.steps.honest
     c.loop-applier.invariant.5
     (λ own further. let same = ap (λ (a : Applied g.row.C.Denot). it.reach a.store) none.2 in absurd (omega (arith, further, same)))
-    (λ honest own further. c.in_ok-take_whole.ensures.open honest own))
+    (λ honest own further. c.in_ok-take_whole.ensures.steps.serves_on honest own))
 
 pub returns-in_err-take_whole-clause-marked : goal.returns-in_err-take_whole-clause-marked
 returns-in_err-take_whole-clause-marked g c =
@@ -357,8 +362,8 @@ returns-in_err-take_whole-clause-marked g c =
     (marked_frame it.holds it.place it.reopens it.serves it.is_honest it.stages it.reach _ c.args.deframer.now c.args.applier.now
     c.args.piece.now c.loop-applier.deframer c.loop-applier.applier c.take_whole.new.applier
     c.loop-applier.taken c.loop-applier.mark.confirmed c.loop-applier.mark.received c.loop-applier.mark.replies c.loop-applier.invariant.7
-    c.loop-applier.invariant.2 c.take_whole.ensures.rests c.loop-applier.invariant.6
-    c.take_whole.ensures.grows c.take_whole.ensures.settings c.take_whole.ensures.served c.take_whole.ensures.honest
+    c.loop-applier.invariant.2 c.take_whole.ensures.steps.rests c.loop-applier.invariant.6
+    c.take_whole.ensures.grows c.take_whole.ensures.settings c.take_whole.ensures.steps.served c.take_whole.ensures.steps.honest
     c.loop-applier.invariant.5
     (λ own further. let same = c.in_err-take_whole.ensures.kept.position in absurd (omega (arith, further, same)))
     (λ honest own further. let same = c.in_err-take_whole.ensures.kept.position in absurd (omega (arith, further, same))))
@@ -382,69 +387,69 @@ returns-clause-counts g c serves =
     let none = c.in_ok-take_whole.ensures.none c.if-branch.false in
     let all = all_taken it.serves it.stages it.reach _ c.args.deframer.now c.loop-applier.deframer c.args.applier.now c.loop-applier.applier
     c.args.piece.now c.loop-applier.taken c.loop-applier.invariant.2 none.0 in
-    subst (λ (p : List ℕ). FeedCounts it.stages it.reach it.stages_missed c.args.now c.args.deframer.now c.args.applier.now p
+    subst (λ (p : List ℕ). FeedCounts it.stages it.reach it.stages_tally c.args.now c.args.deframer.now c.args.applier.now p
     c.take_whole.new.applier.store) (sym (take_whole c.args.piece.now c.loop-applier.taken all))
     (subst (λ (a : Applied g.row.C.Denot).
-    FeedCounts it.stages it.reach it.stages_missed c.args.now c.args.deframer.now c.args.applier.now c.args.piece.now a.store)
+    FeedCounts it.stages it.reach it.stages_tally c.args.now c.args.deframer.now c.args.applier.now c.args.piece.now a.store)
     (sym none.2)
-    (subst (λ (z : ℤ). FeedCounts it.stages it.reach it.stages_missed z c.args.deframer.now c.args.applier.now c.args.piece.now
+    (subst (λ (z : ℤ). FeedCounts it.stages it.reach it.stages_tally z c.args.deframer.now c.args.applier.now c.args.piece.now
     c.loop-applier.applier.store) (to_z-of_z w64 c.args.now c.ranges.now)
-    (counted_whole it.serves it.stages it.reach it.stages_missed _ c.args.deframer.now c.loop-applier.deframer c.args.applier.now
+    (counted_whole it.serves it.stages it.reach it.stages_tally _ c.args.deframer.now c.loop-applier.deframer c.args.applier.now
     c.loop-applier.applier c.args.piece.now c.loop-applier.taken c.loop-applier.invariant.8 none.0 all
     (subst (λ (a : Applied g.row.C.Denot). it.serves a.store) none.2 serves))))
 
 pub returns-then-is_done-clause-counts : goal.returns-then-is_done-clause-counts
 returns-then-is_done-clause-counts g c serves =
     let it = g.C.ReplicaStore in
-    subst (λ (z : ℤ). FeedCounts it.stages it.reach it.stages_missed z c.args.deframer.now c.args.applier.now
+    subst (λ (z : ℤ). FeedCounts it.stages it.reach it.stages_tally z c.args.deframer.now c.args.applier.now
     (take c.loop-applier.taken c.args.piece.now) c.take_whole.new.applier.store) (to_z-of_z w64 c.args.now c.ranges.now)
-    (counted_front it.serves it.stages it.reach it.stages_missed _ c.args.deframer.now c.loop-applier.deframer c.take_whole.new.deframer
+    (counted_front it.serves it.stages it.reach it.stages_tally _ c.args.deframer.now c.loop-applier.deframer c.take_whole.new.deframer
     c.args.applier.now c.loop-applier.applier c.take_whole.new.applier c.args.piece.now c.loop-applier.taken c.loop-applier.invariant.8
-    c.loop-applier.invariant.2.within (c.in_ok-take_whole.ensures.released c.if-branch.true) c.take_whole.ensures.served
+    c.loop-applier.invariant.2.within (c.in_ok-take_whole.ensures.released c.if-branch.true) c.take_whole.ensures.steps.served
     (λ own frame stands. c.in_ok-take_whole.ensures.goes own c.if-branch.true frame stands)
     (λ own frame stands. c.in_ok-take_whole.ensures.counts own c.if-branch.true frame stands) serves)
 
-pub returns-clause-missed : goal.returns-clause-missed
-returns-clause-missed g c = c.take_whole.ensures.missed ∙ c.loop-applier.invariant.9
+pub returns-clause-tally : goal.returns-clause-tally
+returns-clause-tally g c = c.take_whole.ensures.steps.counted ∙ c.loop-applier.invariant.9
 
-pub returns-then-is_done-clause-missed : goal.returns-then-is_done-clause-missed
-returns-then-is_done-clause-missed g c = c.take_whole.ensures.missed ∙ c.loop-applier.invariant.9
+pub returns-then-is_done-clause-tally : goal.returns-then-is_done-clause-tally
+returns-then-is_done-clause-tally g c = c.take_whole.ensures.steps.counted ∙ c.loop-applier.invariant.9
 
-pub returns-in_err-take_whole-clause-missed : goal.returns-in_err-take_whole-clause-missed
-returns-in_err-take_whole-clause-missed g c = c.take_whole.ensures.missed ∙ c.loop-applier.invariant.9
+pub returns-in_err-take_whole-clause-tally : goal.returns-in_err-take_whole-clause-tally
+returns-in_err-take_whole-clause-tally g c = c.take_whole.ensures.steps.counted ∙ c.loop-applier.invariant.9
 
-pub returns-in_err-taken-2-clause-missed : goal.returns-in_err-taken-2-clause-missed
-returns-in_err-taken-2-clause-missed g c = c.take_whole.ensures.missed ∙ c.loop-applier.invariant.9
+pub returns-in_err-taken-2-clause-tally : goal.returns-in_err-taken-2-clause-tally
+returns-in_err-taken-2-clause-tally g c = c.take_whole.ensures.steps.counted ∙ c.loop-applier.invariant.9
 
 pub returns-in_err-taken-clause-counts_refused : goal.returns-in_err-taken-clause-counts_refused
 returns-in_err-taken-clause-counts_refused g c serves =
     let it = g.C.ReplicaStore in
     on_err c.from_residual.result _
-    (counted_stops it.serves it.stages it.reach it.stages_missed c.args.now c.args.deframer.now c.args.deframer.now c.args.applier.now
+    (counted_stops it.serves it.stages it.reach it.stages_tally c.args.now c.args.deframer.now c.args.deframer.now c.args.applier.now
     c.args.applier.now c.args.applier.now.store c.args.piece.now 0
-    (counted_zero it.serves it.stages it.reach it.stages_missed c.args.now c.args.deframer.now c.args.applier.now c.args.piece.now
+    (counted_zero it.serves it.stages it.reach it.stages_tally c.args.now c.args.deframer.now c.args.applier.now c.args.piece.now
     c.requires.waits c.requires.sound) serves refl refl)
 
 pub returns-in_err-take_whole-clause-counts_refused : goal.returns-in_err-take_whole-clause-counts_refused
 returns-in_err-take_whole-clause-counts_refused g c serves =
     let it = g.C.ReplicaStore in
     on_err c.from_residual-in_err-take_whole.result _
-    (subst (λ (z : ℤ). FeedCountsFront it.stages it.reach it.stages_missed z c.args.deframer.now c.args.applier.now c.args.piece.now
+    (subst (λ (z : ℤ). FeedCountsFront it.stages it.reach it.stages_tally z c.args.deframer.now c.args.applier.now c.args.piece.now
     c.take_whole.new.applier.store) (to_z-of_z w64 c.args.now c.ranges.now)
-    (counted_stops it.serves it.stages it.reach it.stages_missed _ c.args.deframer.now c.loop-applier.deframer c.args.applier.now
+    (counted_stops it.serves it.stages it.reach it.stages_tally _ c.args.deframer.now c.loop-applier.deframer c.args.applier.now
     c.loop-applier.applier c.take_whole.new.applier.store c.args.piece.now c.loop-applier.taken c.loop-applier.invariant.8
-    (c.take_whole.ensures.served serves) c.in_err-take_whole.ensures.kept.position c.in_err-take_whole.ensures.uncounted))
+    (c.take_whole.ensures.steps.served serves) c.in_err-take_whole.ensures.kept.position c.in_err-take_whole.ensures.steps.uncounted))
 
 pub returns-in_err-taken-2-clause-counts_refused : goal.returns-in_err-taken-2-clause-counts_refused
 returns-in_err-taken-2-clause-counts_refused g c serves =
     let it = g.C.ReplicaStore in
     on_err c.from_residual-in_err-taken-2.result _
-    (subst (λ (z : ℤ). FeedCountsFront it.stages it.reach it.stages_missed z c.args.deframer.now c.args.applier.now c.args.piece.now
+    (subst (λ (z : ℤ). FeedCountsFront it.stages it.reach it.stages_tally z c.args.deframer.now c.args.applier.now c.args.piece.now
     c.take_whole.new.applier.store) (to_z-of_z w64 c.args.now c.ranges.now)
-    (counted_stops it.serves it.stages it.reach it.stages_missed _ c.args.deframer.now c.take_whole.new.deframer c.args.applier.now
+    (counted_stops it.serves it.stages it.reach it.stages_tally _ c.args.deframer.now c.take_whole.new.deframer c.args.applier.now
     c.take_whole.new.applier c.take_whole.new.applier.store c.args.piece.now c.loop-applier.taken
-    (counted_released it.serves it.stages it.reach it.stages_missed _ c.args.deframer.now c.loop-applier.deframer c.take_whole.new.deframer
+    (counted_released it.serves it.stages it.reach it.stages_tally _ c.args.deframer.now c.loop-applier.deframer c.take_whole.new.deframer
     c.args.applier.now c.loop-applier.applier c.take_whole.new.applier c.args.piece.now c.loop-applier.taken c.loop-applier.invariant.8
-    (c.in_ok-take_whole.ensures.released c.if-branch.true) c.take_whole.ensures.served
+    (c.in_ok-take_whole.ensures.released c.if-branch.true) c.take_whole.ensures.steps.served
     (λ own frame stands. c.in_ok-take_whole.ensures.goes own c.if-branch.true frame stands)
     (λ own frame stands. c.in_ok-take_whole.ensures.counts own c.if-branch.true frame stands)) serves refl refl))

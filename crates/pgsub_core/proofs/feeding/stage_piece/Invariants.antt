@@ -21,9 +21,9 @@ invariant-loop-applier g l =
     g.C.ReplicaStore.stages g.C.ReplicaStore.reach
     (FeedStops g.C.ReplicaStore.stages g.C.ReplicaStore.reach l.now l.fn.deframer l.fn.applier l.piece) l.fn.applier.store l.mark.confirmed
     l.mark.received l.mark.replies l.applier
-    × IsCountedTo g.C.ReplicaStore.stages g.C.ReplicaStore.reach g.C.ReplicaStore.stages_missed l.now g.C.ReplicaStore.serves l.fn.deframer
+    × IsCountedTo g.C.ReplicaStore.stages g.C.ReplicaStore.reach g.C.ReplicaStore.stages_tally l.now g.C.ReplicaStore.serves l.fn.deframer
     l.fn.applier l.piece l.deframer l.applier l.taken
-    × (g.C.ReplicaStore.missed l.applier.store ≡ g.C.ReplicaStore.missed l.fn.applier.store)
+    × (g.C.ReplicaStore.tally l.applier.store ≡ g.C.ReplicaStore.tally l.fn.applier.store)
 
 abbrev pub decreases-loop-applier : goal.decreases-loop-applier
 decreases-loop-applier g l = length l.deframer.held + (length l.piece - l.taken)

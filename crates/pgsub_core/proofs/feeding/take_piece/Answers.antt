@@ -302,14 +302,14 @@ returns-clause-counts g c serves =
     let a = c.stage_piece-taken.new.applier in
     let b = c.settle.new.self in
     subst (λ (y : ℤ). IfOk c.stage_piece-taken.result
-    (λ n. FeedCounts it.holds it.place it.missed y c.args.deframer.now c.args.applier.now (take n c.args.piece.now)
+    (λ n. FeedCounts it.holds it.place it.tally y c.args.deframer.now c.args.applier.now (take n c.args.piece.now)
     c.settle.new.self.store)) (to_z-of_z w64 c.args.now c.ranges.now) (
     if_ok_as c.stage_piece-taken.result _ _ (c.stage_piece-taken.ensures.counts (c.settle.ensures.served serves)) (λ n counts.
     settled_counts it.holds it.place it.stages it.reach z c.args.deframer.now c.args.applier.now u.store c.unstage.ensures.staged
-    c.unstage.ensures.reach it.stages_missed it.missed (take n c.args.piece.now) a.store b.store
+    c.unstage.ensures.reach it.stages_tally it.tally (take n c.args.piece.now) a.store b.store
     c.unstage.ensures.unstaged c.in_ok-settle.ensures.counts c.in_ok-settle.ensures.end
     (subst (λ (x : Applied g.row.C.Denot).
-    FeedCounts it.stages it.reach it.stages_missed z c.args.deframer.now x (take n c.args.piece.now) a.store) c.unstage.ensures.beside
+    FeedCounts it.stages it.reach it.stages_tally z c.args.deframer.now x (take n c.args.piece.now) a.store) c.unstage.ensures.beside
     counts)))
 
 pub returns-clause-counts_refused : goal.returns-clause-counts_refused
@@ -320,24 +320,24 @@ returns-clause-counts_refused g c serves =
     let a = c.stage_piece-taken.new.applier in
     let b = c.settle.new.self in
     subst (λ (y : ℤ). OnErr c.stage_piece-taken.result
-    (FeedCountsFront it.holds it.place it.missed y c.args.deframer.now c.args.applier.now c.args.piece.now c.settle.new.self.store))
+    (FeedCountsFront it.holds it.place it.tally y c.args.deframer.now c.args.applier.now c.args.piece.now c.settle.new.self.store))
     (to_z-of_z w64 c.args.now c.ranges.now) (
     on_err_as c.stage_piece-taken.result _ _ (c.stage_piece-taken.ensures.counts_refused (c.settle.ensures.served serves)) (λ counts.
     settled_front it.holds it.place it.stages it.reach z c.args.deframer.now c.args.applier.now u.store c.unstage.ensures.staged
-    c.unstage.ensures.reach it.stages_missed it.missed c.args.piece.now a.store b.store
+    c.unstage.ensures.reach it.stages_tally it.tally c.args.piece.now a.store b.store
     c.unstage.ensures.unstaged c.in_ok-settle.ensures.counts c.in_ok-settle.ensures.end
     (subst (λ (x : Applied g.row.C.Denot).
-    FeedCountsFront it.stages it.reach it.stages_missed z c.args.deframer.now x c.args.piece.now a.store) c.unstage.ensures.beside
+    FeedCountsFront it.stages it.reach it.stages_tally z c.args.deframer.now x c.args.piece.now a.store) c.unstage.ensures.beside
     counts)))
 
 pub returns-in_err-settle-clause-counts_refused : goal.returns-in_err-settle-clause-counts_refused
 returns-in_err-settle-clause-counts_refused g c serves =
     let it = g.C.ReplicaStore in
     on_err c.from_residual.result _
-    (counted_stops it.serves it.holds it.place it.missed c.args.now c.args.deframer.now c.args.deframer.now c.args.applier.now
+    (counted_stops it.serves it.holds it.place it.tally c.args.now c.args.deframer.now c.args.deframer.now c.args.applier.now
     c.args.applier.now c.settle.new.self.store c.args.piece.now 0
-    (counted_zero it.serves it.holds it.place it.missed c.args.now c.args.deframer.now c.args.applier.now c.args.piece.now c.requires.waits
+    (counted_zero it.serves it.holds it.place it.tally c.args.now c.args.deframer.now c.args.applier.now c.args.piece.now c.requires.waits
     c.requires.sound)
     (c.unstage.ensures.served (c.stage_piece-taken.ensures.served (c.settle.ensures.served serves)))
     (c.in_err-settle.ensures.position ∙ c.stage_piece-taken.ensures.marked.whole.position ∙ c.unstage.ensures.position)
-    (c.in_err-settle.ensures.uncounted ∙ c.stage_piece-taken.ensures.missed ∙ c.unstage.ensures.missed))
+    (c.in_err-settle.ensures.uncounted ∙ c.stage_piece-taken.ensures.tally ∙ c.unstage.ensures.tally))

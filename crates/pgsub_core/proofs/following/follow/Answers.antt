@@ -1,7 +1,7 @@
 use Rattle.std.proofs.Common.{ℤ, None, Some, refl, subst, take_all}
 use Rattle.pgsub_core.proofs.CountedSessions.{no_session, counts_one_more, counts_each}
 use Rattle.pgsub_core.proofs.CountedSessions.{counts_stop_in}
-use Rattle.pgsub_core.proofs.MissedSessions.{front_history, whole_history}
+use Rattle.pgsub_core.proofs.TalliedSessions.{front_history, whole_history}
 use Rattle.pgsub_core.specs.Machine.Counted.{CountsSessions, CountsSessionsFront}
 use Rattle.pgsub_core.specs.declared.fault.Fault.TheVariants as fault
 use Rattle.pgsub_core.specs.Subscriber.Crashing.{LeavesOldOr, FedOver, StandsAsFed}
@@ -26,7 +26,7 @@ loop-session-init g c = (
   λ honest serves. serves,
   λ honest. leaves_same g.C.ReplicaStore.place g.C.ReplicaStore.reopens g.C.ReplicaStore.serves _ c.args.subscriber.now.applied.store
       c.args.subscriber.now.applied.store refl,
-  λ serves. no_session g.C.ReplicaStore.holds g.C.ReplicaStore.place g.C.ReplicaStore.missed c.args.now c.args.subscriber.now,
+  λ serves. no_session g.C.ReplicaStore.holds g.C.ReplicaStore.place g.C.ReplicaStore.tally c.args.now c.args.subscriber.now,
 )
 
 pub loop-session-preserved : goal.loop-session-preserved
@@ -43,7 +43,7 @@ loop-session-preserved g c = (
       c.args.subscriber.now c.loop-session.subscriber c.follow_session.new.subscriber c.loop-session.invariant.1 c.args.sessions.now
       c.loop-session.session-index c.session-item.result c.loop-session-test.true c.session-item.is c.loop-session.invariant.0
       (c.loop-session.invariant.4 (c.follow_session.ensures.honest honest)) (c.follow_session.ensures.left honest),
-  λ serves. counts_one_more g.C.ReplicaStore.holds g.C.ReplicaStore.place g.C.ReplicaStore.missed _ c.args.subscriber.now
+  λ serves. counts_one_more g.C.ReplicaStore.holds g.C.ReplicaStore.place g.C.ReplicaStore.tally _ c.args.subscriber.now
       c.loop-session.subscriber c.follow_session.new.subscriber c.args.sessions.now c.loop-session.session-index c.session-item.result
       c.loop-session-test.true c.session-item.is
       (c.loop-session.invariant.5 (c.follow_session.ensures.served serves)) (c.in_ok-follow_session.ensures.fed serves)
@@ -175,32 +175,32 @@ returns-in_err-follow_session-clause-crash g c honest serves =
 pub returns-clause-counts : goal.returns-clause-counts
 returns-clause-counts g c serves =
     let it = g.C.ReplicaStore in
-    subst (λ (z : ℤ). CountsSessions it.holds it.place it.missed z c.args.subscriber.now (bytes_of c.args.sessions.now)
+    subst (λ (z : ℤ). CountsSessions it.holds it.place it.tally z c.args.subscriber.now (bytes_of c.args.sessions.now)
     c.loop-session.subscriber) (to_z-of_z w64 c.args.now c.ranges.now)
-    (counts_each it.holds it.place it.missed _ c.args.subscriber.now c.loop-session.subscriber c.args.sessions.now
+    (counts_each it.holds it.place it.tally _ c.args.subscriber.now c.loop-session.subscriber c.args.sessions.now
     c.loop-session.session-index
     (take_all c.loop-session.session-index c.args.sessions.now c.loop-session-test.false) (c.loop-session.invariant.5 serves))
 
-pub returns-clause-missed : goal.returns-clause-missed
-returns-clause-missed g c serves =
+pub returns-clause-tally : goal.returns-clause-tally
+returns-clause-tally g c serves =
     let it = g.C.ReplicaStore in
-    whole_history it.holds it.place it.missed c.args.now c.args.subscriber.now c.loop-session.subscriber (bytes_of c.args.sessions.now)
+    whole_history it.holds it.place it.tally c.args.now c.args.subscriber.now c.loop-session.subscriber (bytes_of c.args.sessions.now)
     (returns-clause-counts g c serves)
 
 pub returns-in_err-follow_session-clause-counts_refused : goal.returns-in_err-follow_session-clause-counts_refused
 returns-in_err-follow_session-clause-counts_refused g c serves =
     let it = g.C.ReplicaStore in
     on_err c.from_residual.result _
-    (subst (λ (z : ℤ). CountsSessionsFront it.holds it.place it.missed z c.args.subscriber.now (bytes_of c.args.sessions.now)
+    (subst (λ (z : ℤ). CountsSessionsFront it.holds it.place it.tally z c.args.subscriber.now (bytes_of c.args.sessions.now)
     c.follow_session.new.subscriber) (to_z-of_z w64 c.args.now c.ranges.now)
-    (counts_stop_in it.holds it.place it.missed _ c.args.subscriber.now c.loop-session.subscriber c.follow_session.new.subscriber
+    (counts_stop_in it.holds it.place it.tally _ c.args.subscriber.now c.loop-session.subscriber c.follow_session.new.subscriber
     c.args.sessions.now c.loop-session.session-index c.session-item.result c.loop-session-test.true c.session-item.is
     (c.loop-session.invariant.5 (c.follow_session.ensures.served serves)) (c.in_err-follow_session.ensures.counts_refused serves)))
 
-pub returns-in_err-follow_session-clause-missed : goal.returns-in_err-follow_session-clause-missed
-returns-in_err-follow_session-clause-missed g c serves =
+pub returns-in_err-follow_session-clause-tally : goal.returns-in_err-follow_session-clause-tally
+returns-in_err-follow_session-clause-tally g c serves =
     let it = g.C.ReplicaStore in
-    front_history it.holds it.place it.missed _ c.args.subscriber.now c.follow_session.new.subscriber (bytes_of c.args.sessions.now)
-    (counts_stop_in it.holds it.place it.missed _ c.args.subscriber.now c.loop-session.subscriber c.follow_session.new.subscriber
+    front_history it.holds it.place it.tally _ c.args.subscriber.now c.follow_session.new.subscriber (bytes_of c.args.sessions.now)
+    (counts_stop_in it.holds it.place it.tally _ c.args.subscriber.now c.loop-session.subscriber c.follow_session.new.subscriber
     c.args.sessions.now c.loop-session.session-index c.session-item.result c.loop-session-test.true c.session-item.is
     (c.loop-session.invariant.5 (c.follow_session.ensures.served serves)) (c.in_err-follow_session.ensures.counts_refused serves))

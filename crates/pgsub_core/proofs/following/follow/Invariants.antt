@@ -21,5 +21,5 @@ invariant-loop-session g l =
     (Some fault.Memory)))
     l.fn.subscriber.applied.store l.subscriber.applied.store)
     × (g.C.ReplicaStore.serves l.subscriber.applied.store
-    → CountsSessions g.C.ReplicaStore.holds g.C.ReplicaStore.place g.C.ReplicaStore.missed l.fn.now l.fn.subscriber
+    → CountsSessions g.C.ReplicaStore.holds g.C.ReplicaStore.place g.C.ReplicaStore.tally l.fn.now l.fn.subscriber
     (bytes_of (take l.session-index l.sessions)) l.subscriber)

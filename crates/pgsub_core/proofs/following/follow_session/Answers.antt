@@ -24,7 +24,7 @@ loop-piece-init g c = (
   λ honest serves. subst g.C.ReplicaStore.serves (sym c.disconnect.ensures.store) serves,
   λ honest. leaves_same g.C.ReplicaStore.place g.C.ReplicaStore.reopens g.C.ReplicaStore.serves _ c.args.subscriber.now.applied.store
       c.disconnect.new.self.applied.store c.disconnect.ensures.store,
-  λ serves. counts_start g.C.ReplicaStore.holds g.C.ReplicaStore.place g.C.ReplicaStore.missed _ c.args.subscriber.now c.disconnect.new.self
+  λ serves. counts_start g.C.ReplicaStore.holds g.C.ReplicaStore.place g.C.ReplicaStore.tally _ c.args.subscriber.now c.disconnect.new.self
       c.disconnect.ensures.store,
 )
 
@@ -43,7 +43,7 @@ loop-piece-preserved g c = (
       c.as_slice-piece-items.result.now c.as_slice-piece-items.ensures
       c.loop-piece.piece-index c.piece-item.result c.loop-piece-test.true c.piece-item.is c.loop-piece.invariant.0 c.as_slice.result.now
       c.as_slice.ensures (c.loop-piece.invariant.5 (c.feed.ensures.honest honest)) (c.feed.ensures.crash honest),
-  λ serves. counts_more g.C.ReplicaStore.holds g.C.ReplicaStore.place g.C.ReplicaStore.missed _ c.args.subscriber.now
+  λ serves. counts_more g.C.ReplicaStore.holds g.C.ReplicaStore.place g.C.ReplicaStore.tally _ c.args.subscriber.now
       c.loop-piece.subscriber c.feed.new.self c.args.session.now.pieces c.as_slice-piece-items.result.now c.as_slice-piece-items.ensures
       c.loop-piece.piece-index c.piece-item.result c.loop-piece-test.true c.piece-item.is
       (c.loop-piece.invariant.0 (c.feed.ensures.served serves)) (c.loop-piece.invariant.6 (c.feed.ensures.served serves))
@@ -121,9 +121,9 @@ returns-in_err-feed-clause-why g c honest serves =
 pub returns-clause-counts : goal.returns-clause-counts
 returns-clause-counts g c serves =
     let it = g.C.ReplicaStore in
-    subst (λ (z : ℤ). CountsSession it.holds it.place it.missed z c.args.subscriber.now (session_bytes c.args.session.now)
+    subst (λ (z : ℤ). CountsSession it.holds it.place it.tally z c.args.subscriber.now (session_bytes c.args.session.now)
     c.loop-piece.subscriber) (to_z-of_z w64 c.args.now c.ranges.now)
-    (counts_all it.holds it.place it.missed _ c.args.subscriber.now c.loop-piece.subscriber c.args.session.now.pieces
+    (counts_all it.holds it.place it.tally _ c.args.subscriber.now c.loop-piece.subscriber c.args.session.now.pieces
     c.loop-piece.piece-index
     (subst (λ (xs : List (List ℕ)). take c.loop-piece.piece-index xs ≡ xs) c.as_slice-piece-items.ensures
     (take_all c.loop-piece.piece-index c.as_slice-piece-items.result.now c.loop-piece-test.false)) (c.loop-piece.invariant.6 serves))
@@ -132,9 +132,9 @@ pub returns-in_err-feed-clause-counts_refused : goal.returns-in_err-feed-clause-
 returns-in_err-feed-clause-counts_refused g c serves =
     let it = g.C.ReplicaStore in
     on_err c.from_residual.result _
-    (subst (λ (z : ℤ). CountsSessionFront it.holds it.place it.missed z c.args.subscriber.now (session_bytes c.args.session.now)
+    (subst (λ (z : ℤ). CountsSessionFront it.holds it.place it.tally z c.args.subscriber.now (session_bytes c.args.session.now)
     c.feed.new.self) (to_z-of_z w64 c.args.now c.ranges.now)
-    (counts_stop it.holds it.place it.missed _ c.args.subscriber.now c.loop-piece.subscriber c.feed.new.self c.args.session.now.pieces
+    (counts_stop it.holds it.place it.tally _ c.args.subscriber.now c.loop-piece.subscriber c.feed.new.self c.args.session.now.pieces
     c.as_slice-piece-items.result.now c.as_slice-piece-items.ensures c.loop-piece.piece-index c.piece-item.result c.loop-piece-test.true
     c.piece-item.is
     (c.loop-piece.invariant.0 (c.feed.ensures.served serves)) (c.loop-piece.invariant.6 (c.feed.ensures.served serves))

@@ -23,5 +23,5 @@ invariant-loop-piece g l =
     fault.Memory))
     l.fn.subscriber.applied.store l.subscriber.applied.store)
     × (g.C.ReplicaStore.serves l.subscriber.applied.store
-    → CountsSession g.C.ReplicaStore.holds g.C.ReplicaStore.place g.C.ReplicaStore.missed l.fn.now l.fn.subscriber
+    → CountsSession g.C.ReplicaStore.holds g.C.ReplicaStore.place g.C.ReplicaStore.tally l.fn.now l.fn.subscriber
     (flat_map (λ (piece : List ℕ). piece) (take l.piece-index l.session.pieces)) l.subscriber)

@@ -34,7 +34,7 @@ loop-source-preserved g c =
           c.loop-source.subscriber (take c.in-Some.count room)
           c.loop-source.invariant.4 c.loop-source.invariant.2 read.1 is (c.loop-source.invariant.7 (c.feed.ensures.honest honest))
           (c.feed.ensures.crash honest),
-      λ serves. counts_more g.C.ReplicaStore.holds g.C.ReplicaStore.place g.C.ReplicaStore.missed _
+      λ serves. counts_more g.C.ReplicaStore.holds g.C.ReplicaStore.place g.C.ReplicaStore.tally _
           (g.R.Read.remaining c.args.source.now.reader) (g.R.Read.remaining c.loop-source.source.reader)
           (g.R.Read.remaining c.read_piece.new.self.reader)
           c.args.source.now.reads c.loop-source.source.reads c.read_piece.new.self.reads c.args.subscriber.now c.loop-source.subscriber
@@ -154,9 +154,9 @@ returns-in_err-feed-clause-counts_refused g c serves unclosed =
     let unread = g.R.Read.remaining c.args.source.now.reader in
     let rest = g.R.Read.remaining c.read_piece.new.self.reader in
     on_residual c.from_residual.result f _ c.from_residual.ensures.1
-    (λ other. subst (λ (z : ℤ). PumpsCountedUntil it.holds it.place it.missed z unread rest c.args.subscriber.now c.feed.new.self f)
+    (λ other. subst (λ (z : ℤ). PumpsCountedUntil it.holds it.place it.tally z unread rest c.args.subscriber.now c.feed.new.self f)
     (to_z-of_z w64 c.args.now c.ranges.now)
-    (counts_until it.holds it.place it.missed _ unread (g.R.Read.remaining c.loop-source.source.reader) rest c.args.source.now.reads
+    (counts_until it.holds it.place it.tally _ unread (g.R.Read.remaining c.loop-source.source.reader) rest c.args.source.now.reads
     c.loop-source.source.reads c.args.subscriber.now c.loop-source.subscriber c.feed.new.self
     (take c.in-Some.count room) f (c.loop-source.invariant.8 (c.feed.ensures.served serves)) read.1 is
     (c.in_err-feed.ensures.refused serves) (c.in_err-feed.ensures.counts_refused serves (c.loop-source.invariant.3 ∙ unclosed))))
@@ -180,11 +180,11 @@ returns-then-count-eq0-clause-counts g c serves =
     let it = g.C.ReplicaStore in
     let unread = g.R.Read.remaining c.args.source.now.reader in
     let rest = g.R.Read.remaining c.read_piece.new.self.reader in
-    subst (λ (n : ℕ). PumpsCounted it.holds it.place it.missed c.args.now unread rest c.args.source.now.reads n c.args.subscriber.now
+    subst (λ (n : ℕ). PumpsCounted it.holds it.place it.tally c.args.now unread rest c.args.source.now.reads n c.args.subscriber.now
     c.loop-source.subscriber) (sym c.read_piece.ensures.reads)
-    (subst (λ (z : ℤ). PumpsCounted it.holds it.place it.missed z unread rest c.args.source.now.reads c.loop-source.source.reads
+    (subst (λ (z : ℤ). PumpsCounted it.holds it.place it.tally z unread rest c.args.source.now.reads c.loop-source.source.reads
     c.args.subscriber.now c.loop-source.subscriber) (to_z-of_z w64 c.args.now c.ranges.now)
-    (counts_end it.holds it.place it.missed _ unread (g.R.Read.remaining c.loop-source.source.reader) rest c.args.source.now.reads
+    (counts_end it.holds it.place it.tally _ unread (g.R.Read.remaining c.loop-source.source.reader) rest c.args.source.now.reads
     c.loop-source.source.reads c.args.subscriber.now c.loop-source.subscriber (c.loop-source.invariant.8 serves)
     (subst (λ (n : ℕ). Consumes (g.R.Read.remaining c.loop-source.source.reader) rest (take n c.read_piece.new.room)) c.if-count-eq0.true
     c.in-Some.ensures.some.1)))

@@ -21,7 +21,7 @@ invariant-loop-source g l =
     (FedOver (λ s. PumpsUntil g.C.ReplicaStore.holds g.C.ReplicaStore.place l.fn.now (g.R.Read.remaining l.fn.source.reader)
     (g.R.Read.remaining l.source.reader) l.fn.subscriber s fault.Memory)) l.fn.subscriber.applied.store l.subscriber.applied.store)
     × (g.C.ReplicaStore.serves l.subscriber.applied.store
-    → PumpsCounted g.C.ReplicaStore.holds g.C.ReplicaStore.place g.C.ReplicaStore.missed l.fn.now (g.R.Read.remaining l.fn.source.reader)
+    → PumpsCounted g.C.ReplicaStore.holds g.C.ReplicaStore.place g.C.ReplicaStore.tally l.fn.now (g.R.Read.remaining l.fn.source.reader)
     (g.R.Read.remaining l.source.reader) l.fn.source.reads l.source.reads l.fn.subscriber l.subscriber)
 
 abbrev pub decreases-loop-source : goal.decreases-loop-source

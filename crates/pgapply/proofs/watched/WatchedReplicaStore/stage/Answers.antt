@@ -1,7 +1,7 @@
 use Rattle.std.proofs.Common.{OnOk, OnErr, subst}
 use Rattle.std.specs.Prelude.{IfErr}
 use Rattle.pgapply.specs.Taken.{Folds, RefusesWork, Stays}
-use Rattle.pgapply.specs.Missing.{Counts}
+use Rattle.pgapply.specs.Tallies.{Counts}
 use Rattle.pgapply.proofs.watched.WatchedReplicaStore.stage.Goals as goal
 
 pub returns-clause-staged : goal.returns-clause-staged
@@ -41,6 +41,7 @@ returns-clause-why g c =
 pub returns-clause-counts : goal.returns-clause-counts
 returns-clause-counts g c =
     let it = g.C.ReplicaStore in
+    let commit = c.args.commit.now in
     subst (λ s. it.serves c.stage.new.self
-    → OnOk c.stage.result (Counts it.stages s c.args.commit.now.work.now.changes c.args.commit.now.end (it.stages_missed s)
-    (it.stages_missed c.stage.new.self))) c.in_ok-note.ensures.store c.stage.ensures.counts
+    → OnOk c.stage.result (Counts it.stages s commit.end commit.about commit.work.now.changes (it.stages_tally s)
+    (it.stages_tally c.stage.new.self))) c.in_ok-note.ensures.store c.stage.ensures.counts

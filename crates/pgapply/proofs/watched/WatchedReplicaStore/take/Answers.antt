@@ -1,7 +1,7 @@
-use Rattle.std.proofs.Common.{◌⊎◌, OnOk, OnErr, subst}
+use Rattle.std.proofs.Common.{◌⊎◌, OnOk, OnErr, None, subst}
 use Rattle.std.specs.Prelude.{IfErr}
 use Rattle.pgapply.specs.Taken.{Folds, LeavesFold, RefusesWork, Stays}
-use Rattle.pgapply.specs.Missing.{Counts}
+use Rattle.pgapply.specs.Tallies.{Counts}
 use Rattle.pgapply.proofs.watched.WatchedReplicaStore.take.Goals as goal
 
 pub returns-clause-taken : goal.returns-clause-taken
@@ -39,5 +39,5 @@ pub returns-clause-counts : goal.returns-clause-counts
 returns-clause-counts g c =
     let it = g.C.ReplicaStore in
     subst (λ s. it.serves c.take.new.self
-    → OnOk c.take.result (Counts it.holds s c.args.work.now.changes c.args.end (it.missed s) (it.missed c.take.new.self)))
+    → OnOk c.take.result (Counts it.holds s c.args.end None c.args.work.now.changes (it.tally s) (it.tally c.take.new.self)))
     c.in_ok-note.ensures.store c.take.ensures.counts

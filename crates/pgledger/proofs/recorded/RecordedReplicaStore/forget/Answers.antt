@@ -15,16 +15,19 @@ returns-clause-forgets g c =
       held = λ tables h. (
         h.0,
         λ so. still_records l.begins l.keeps l.outlasts l.is_stuck l.is_wanting l.is_hearing l.reopens old.ledger new c.forget.ensures.rests
-            tables (s.place old.store) c.forget.ensures.kept (λ stands. sym c.forget.ensures.stuck ∙ stands) (s.reach old.store) (h.1 so),
+            old.from (s.tally old.store).commits tables (s.place old.store) c.forget.ensures.kept (λ stands. sym c.forget.ensures.stuck ∙
+            stands) (s.reach old.store) (h.1 so),
       );
       staged = λ tables h. (
         h.0,
         λ so. still_plans l.begins l.keeps l.outlasts l.is_stuck l.is_wanting l.is_hearing l.reopens old.ledger new c.forget.ensures.rests
-            tables (s.place old.store) c.forget.ensures.kept (λ stands. sym c.forget.ensures.stuck ∙ stands) (s.reach old.store) (h.1 so),
+            old.from (s.tally old.store).commits tables (s.place old.store) c.forget.ensures.kept (λ stands. sym c.forget.ensures.stuck ∙
+            stands) (s.reach old.store)
+            (s.stages_tally old.store).commits (h.1 so),
       );
       place_is = refl;
       reach_is = refl;
-      missed_is = refl;
-      stages_missed_is = refl;
-      reopens_less = λ other r. (r.0, λ so. c.forget.ensures.rests.reopens_less _ other.ledger (r.1 so));
+      tally_is = refl;
+      stages_tally_is = refl;
+      reopens_less = λ other r. (r.0, r.1, r.2, λ so. c.forget.ensures.rests.reopens_less _ other.ledger (r.3 so));
     }

@@ -1,4 +1,5 @@
-use Rattle.pgledger.proofs.Recording.{same_records}
+use Rattle.std.proofs.Common.{ap}
+use Rattle.pgledger.proofs.Recording.{same_since}
 use Rattle.pgledger.proofs.recorded.RecordedReplicaStore.position.Goals as goal
 
 pub returns-clause-contains : goal.returns-clause-contains
@@ -7,9 +8,9 @@ returns-clause-contains g c serves other r =
     let left = c.position.ensures.contains serves other.store r.0 in (
       λ tables h. (
         left.0 tables h.0,
-        λ so. same_records l.begins l.keeps l.outlasts l.is_stuck l.is_wanting l.is_hearing l.reopens
-            g.met.L.Ledger.cuts c.args.self.now.ledger other.ledger
-            tables _ _ _ _ left.1 (r.1 so) (h.1 so),
+        λ so. same_since l.begins l.keeps l.outlasts l.is_stuck l.is_wanting l.is_hearing l.reopens
+            g.met.L.Ledger.cuts c.args.self.now.ledger other.ledger _ _ tables _ _ _ _ other.from _ left.1 (r.3 so)
+            (ap (λ t. t.commits) r.1) r.2 (h.1 so),
       ),
       left.1,
     )

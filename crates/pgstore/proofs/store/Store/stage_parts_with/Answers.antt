@@ -1,5 +1,6 @@
 use Rattle.std.proofs.Common.{◌<◌, ◌^◌, sym, subst, arith}
 use Rattle.pgapply.specs.Taken as taken
+use Rattle.pgapply.specs.Tallies.{Tally}
 use Rattle.pgstore.specs.Sources.{rows_in}
 use Rattle.pgstore.specs.StoreValue.{Group, IsGroup, Plans, StoreValue}
 use Rattle.pgstore.proofs.Groups.{before_stored, refused_group, refused_plans, stages_folds}
@@ -23,6 +24,7 @@ invariant_of-self g c =
     let group = c.self.inside.group in
     let survives = c.stage_parts_told-staged.ensures.survives in
     let misses = c.stage_parts_told-staged.new.misses in
+    let tally : Tally = record { misses = misses; commits = c.with_parts-commits.result.commits } in
     let end = c.args.end in
     let later : group.reach < end = subst (λ (s : StoreValue g.row.S.Denot). s.group.reach < end) (sym c.self.view_is) c.requires in
     let range : end < 2 ^ 64 = c.stage_parts_told-staged.ensures.range in (
@@ -31,8 +33,8 @@ invariant_of-self g c =
           (read_left g.S.Store old new position survives) g.met.S.Store.settled,
       subst (IsGroup g.S.Store new position) (sym c.stage.ensures)
           (parted_group g.S.Store old new position group c.is_empty-is_first.result c.is_empty-is_first.ensures survives.clean
-          (p.is_honest c.stage_parts_told-staged.new.parts) (p.left c.args.parts.now) end c.stages_missed-missed.result misses later range
-          (sym c.in_default.ensures.lost) c.self.invariant.1 c.self.invariant.2 c.in-Ok.ensures.staged),
+          (p.is_honest c.stage_parts_told-staged.new.parts) (p.left c.args.parts.now) end c.stages_missed-missed.result misses tally
+          later range (sym c.in_default.ensures.lost) c.self.invariant.1 c.self.invariant.2 c.in-Ok.ensures.staged),
     )
 
 pub invariant_of-self-in-Err : goal.invariant_of-self-in-Err
@@ -59,6 +61,7 @@ returns-in-Ok-clause-staged g c clean honest =
     let group = c.self.inside.group in
     let survives = c.stage_parts_told-staged.ensures.survives in
     let misses = c.stage_parts_told-staged.new.misses in
+    let tally : Tally = record { misses = misses; commits = c.with_parts-commits.result.commits } in
     let end = c.args.end in
     let later : group.reach < end = subst (λ (s : StoreValue g.row.S.Denot). s.group.reach < end) (sym c.self.view_is) c.requires in
     let was : StoreValue g.row.S.Denot = record { rows = old; position = position; group = group } in
@@ -68,7 +71,7 @@ returns-in-Ok-clause-staged g c clean honest =
     (subst (λ (a : Group). taken.Folds (Plans g.S.Store) was (record { rows = new; position = position; group = a }) all)
     (sym c.stage.ensures)
     (stages_folds g.S.Store old new position group c.is_empty-is_first.result c.is_empty-is_first.ensures survives.clean
-    it.definitions it.changes all (it.are honest) end misses c.self.invariant.2.order later (sym c.in_default.ensures.lost) it.staged))
+    it.definitions it.changes all (it.are honest) end tally c.self.invariant.2.order later (sym c.in_default.ensures.lost) it.staged))
 
 pub returns-in-Err-clause-undone : goal.returns-in-Err-clause-undone
 returns-in-Err-clause-undone g c serves =

@@ -1,5 +1,6 @@
 use Rattle.std.proofs.Common.{◌≡◌, ◌<◌, ◌^◌, sym, subst, ap, ◌∙◌, arith}
 use Rattle.pgapply.specs.Taken as taken
+use Rattle.pgapply.specs.Tallies.{Tally}
 use Rattle.pgapply.specs.Works.{change_values}
 use Rattle.pgstore.specs.Sources.{rows_in}
 use Rattle.pgstore.specs.StoreValue.{Group, IsGroup, Plans, StoreValue}
@@ -15,7 +16,7 @@ invariant_of-self g c =
     let position = c.self.inside.position in
     let group = c.self.inside.group in
     let survives = c.stage_told-staged.ensures.survives in
-    let misses = c.stage_told-staged.new.misses in
+    let tally : Tally = record { misses = c.stage_told-staged.new.misses; commits = c.with_commit-commits.result.commits } in
     let end = c.args.commit.now.end in
     let later : group.reach < end = subst (λ (s : StoreValue g.row.S.Denot). s.group.reach < end) (sym c.self.view_is) c.requires in
     let are : change_values c.definitions.result.now c.entries.result ≡ c.args.commit.now.work.now.changes =
@@ -27,7 +28,7 @@ invariant_of-self g c =
           (read_left g.S.Store old new position survives) g.met.S.Store.settled,
       subst (IsGroup g.S.Store new position) (sym c.stage.ensures)
           (staged_group g.S.Store old new position group c.is_empty-is_first.result c.is_empty-is_first.ensures survives.clean
-          c.definitions.result.now c.entries.result c.args.commit.now.work.now.changes are end misses later range stands
+          c.definitions.result.now c.entries.result c.args.commit.now.work.now.changes are end tally later range stands
           c.self.invariant.1 c.self.invariant.2 c.in-Ok.ensures.staged),
     )
 
@@ -53,7 +54,7 @@ returns-in-Ok-clause-staged g c clean =
     let position = c.self.inside.position in
     let group = c.self.inside.group in
     let survives = c.stage_told-staged.ensures.survives in
-    let misses = c.stage_told-staged.new.misses in
+    let tally : Tally = record { misses = c.stage_told-staged.new.misses; commits = c.with_commit-commits.result.commits } in
     let end = c.args.commit.now.end in
     let later : group.reach < end = subst (λ (s : StoreValue g.row.S.Denot). s.group.reach < end) (sym c.self.view_is) c.requires in
     let are : change_values c.definitions.result.now c.entries.result ≡ c.args.commit.now.work.now.changes =
@@ -66,7 +67,7 @@ returns-in-Ok-clause-staged g c clean =
     (subst (λ (a : Group). taken.Folds (Plans g.S.Store) was (record { rows = new; position = position; group = a })
     c.args.commit.now.work.now.changes) (sym c.stage.ensures)
     (stages_folds g.S.Store old new position group c.is_empty-is_first.result c.is_empty-is_first.ensures survives.clean
-    c.definitions.result.now c.entries.result c.args.commit.now.work.now.changes are end misses
+    c.definitions.result.now c.entries.result c.args.commit.now.work.now.changes are end tally
     c.self.invariant.2.order later stands (c.in-Ok.ensures.staged clean)))
 
 pub returns-in-Err-clause-undone : goal.returns-in-Err-clause-undone

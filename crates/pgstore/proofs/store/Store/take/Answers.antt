@@ -34,7 +34,7 @@ invariant_of-self-2 g c =
       taken_store g.S.Store (rows_in c.self.inside.source) new c.self.inside.position c.take_all-taken.ensures.crash.clean
           c.definitions.result.now c.entries.result c.args.end (to_be_bytes w64 c.args.end) refl range c.in_default.ensures.taken
           c.self.invariant.1 g.met.S.Store.settled,
-      taken_empty g.S.Store new c.args.end range c.take.new.self c.take_all-taken.new.misses c.take.ensures,
+      taken_empty g.S.Store new c.args.end range c.take.new.self _ c.take.ensures,
     )
 
 pub returns-clause-taken : goal.returns-clause-taken

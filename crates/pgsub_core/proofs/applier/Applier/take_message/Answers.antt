@@ -115,8 +115,8 @@ returns-clause-counts g c serves =
     let it = g.C.ReplicaStore in
     let m = message_value c.args.message.now in
     counts_heard it.stages it.reach c.args.self.now c.hear.new.self c.hear.ensures.beside c.hear.ensures.hears.staged
-    c.hear.ensures.hears.reach_is it.stages_missed (λ s. message_counted s m) (record c.hear.new.self { store = c.self-2.inside.store })
-    c.hear.ensures.hears.stages_missed_is
-    (counts_message it.stages it.reach it.stages_missed m _ c.hear.new.self c.self.view_is
+    c.hear.ensures.hears.reach_is it.stages_tally (λ s. message_counted s m) (record c.hear.new.self { store = c.self-2.inside.store })
+    c.hear.ensures.hears.stages_tally_is
+    (counts_message it.stages it.reach it.stages_tally m _ c.hear.new.self c.self.view_is
     c.step.new.self.state c.step.new.self.version c.in_ok-event.event c.in_ok-event.ensures.taken _ c.take_event.new.self own
     (c.in_ok-take_event.ensures.counts (subst (λ (a : Applied g.row.C.Denot). it.serves a.store) own serves)) c.later-self-inside.result)

@@ -131,16 +131,16 @@ returns-clause-counts g c serves =
     let within : c.in_ok-taken.taken ≤ length c.args.piece.now = cut.within in
     let rest = c.if-taken-piece.false in
     let all : c.in_ok-taken.taken ≡ length c.args.piece.now = omega (arith, within, rest) in
-    subst (λ (p : List ℕ). FeedsCounted it.holds it.place it.missed c.args.now c.args.self.now p c.feed_session.new.self)
+    subst (λ (p : List ℕ). FeedsCounted it.holds it.place it.tally c.args.now c.args.self.now p c.feed_session.new.self)
     (take_whole c.args.piece.now c.in_ok-taken.taken all)
-    (subst (λ (z : ℤ). FeedsCounted it.holds it.place it.missed z c.args.self.now (take c.in_ok-taken.taken c.args.piece.now)
+    (subst (λ (z : ℤ). FeedsCounted it.holds it.place it.tally z c.args.self.now (take c.in_ok-taken.taken c.args.piece.now)
     c.feed_session.new.self) (to_z-of_z w64 c.args.now c.ranges.now) (c.in_ok-taken.ensures.counts serves))
 
 pub returns-in_err-taken-clause-counts_refused : goal.returns-in_err-taken-clause-counts_refused
 returns-in_err-taken-clause-counts_refused g c serves unclosed =
     let it = g.C.ReplicaStore in
     on_err c.from_residual.result _
-    (subst (λ (z : ℤ). FeedsCountedFront it.holds it.place it.missed z c.args.self.now c.args.piece.now c.feed_session.new.self)
+    (subst (λ (z : ℤ). FeedsCountedFront it.holds it.place it.tally z c.args.self.now c.args.piece.now c.feed_session.new.self)
     (to_z-of_z w64 c.args.now c.ranges.now) (c.in_err-taken.ensures.counts_refused serves unclosed))
 
 pub returns-then-taken-piece-clause-counts_refused : goal.returns-then-taken-piece-clause-counts_refused
@@ -150,8 +150,8 @@ returns-then-taken-piece-clause-counts_refused g c serves unclosed tables h =
     (subst (λ (s : SubscriberValue g.row.C.Denot). it.serves s.applied.store) c.self.view_is serves) in
     subst (λ (s : SubscriberValue g.row.C.Denot).
     IsCountedFront c.args.now (seen it.place c.args.self.now tables) c.args.piece.now (it.place s.applied.store)
-    (it.missed c.args.self.now.applied.store) (it.missed s.applied.store)) (sym c.self.view_is)
+    (it.tally c.args.self.now.applied.store) (it.tally s.applied.store)) (sym c.self.view_is)
     (subst (λ (z : ℤ). IsCountedFront z (seen it.place c.args.self.now tables) c.args.piece.now
-    (it.place c.feed_session.new.self.applied.store) (it.missed c.args.self.now.applied.store)
-    (it.missed c.feed_session.new.self.applied.store)) (to_z-of_z w64 c.args.now c.ranges.now)
+    (it.place c.feed_session.new.self.applied.store) (it.tally c.args.self.now.applied.store)
+    (it.tally c.feed_session.new.self.applied.store)) (to_z-of_z w64 c.args.now c.ranges.now)
     (whole_front _ (seen it.place c.args.self.now tables) c.args.piece.now c.in_ok-taken.taken _ _ _ (counts tables h)))

@@ -90,18 +90,18 @@ pub returns-in-Ok-clause-counts : goal.returns-in-Ok-clause-counts
 returns-in-Ok-clause-counts g c serves =
     let it = g.C.ReplicaStore in
     let part = take c.in-Ok.taken c.args.piece.now in
-    feeds_counted it.holds it.place it.missed c.args.now part c.self.inside.deframer c.self.inside.applier c.self.inside.closed
+    feeds_counted it.holds it.place it.tally c.args.now part c.self.inside.deframer c.self.inside.applier c.self.inside.closed
     c.args.self.now (record { applied = c.take_piece.new.applier; framing = framing_of c.take_piece.new.deframer true }) c.self.view_is
-    (subst (λ (z : ℤ). FeedCounts it.holds it.place it.missed z c.self.inside.deframer c.self.inside.applier part
+    (subst (λ (z : ℤ). FeedCounts it.holds it.place it.tally z c.self.inside.deframer c.self.inside.applier part
     c.take_piece.new.applier.store) (to_z-of_z w64 c.args.now c.ranges.now)
     (c.in-Ok.ensures.counts serves))
 
 pub returns-in-Err-clause-counts_refused : goal.returns-in-Err-clause-counts_refused
 returns-in-Err-clause-counts_refused g c serves unclosed =
     let it = g.C.ReplicaStore in
-    feeds_counted_front it.holds it.place it.missed c.args.now c.args.piece.now c.self.inside.deframer c.self.inside.applier
+    feeds_counted_front it.holds it.place it.tally c.args.now c.args.piece.now c.self.inside.deframer c.self.inside.applier
     c.self.inside.closed c.args.self.now
     (record { applied = c.take_piece.new.applier; framing = framing_of c.take_piece.new.deframer true }) c.self.view_is
-    (subst (λ (z : ℤ). FeedCountsFront it.holds it.place it.missed z c.self.inside.deframer c.self.inside.applier c.args.piece.now
+    (subst (λ (z : ℤ). FeedCountsFront it.holds it.place it.tally z c.self.inside.deframer c.self.inside.applier c.args.piece.now
     c.take_piece.new.applier.store) (to_z-of_z w64 c.args.now c.ranges.now)
     (c.in-Err.ensures.counts_refused serves))
