@@ -3,13 +3,20 @@
 from __future__ import annotations
 
 import re
+import sqlite3
+import tracemalloc
 from collections.abc import Sequence
+from unittest import mock
 
 from feed_text import About, Column, Definition, Line, lsn_text
 
-from pgsub_feed.errors import UNFIT
+from pgsub_feed.errors import PASSING, UNFIT
+from pgsub_feed.interruption import never
 from pgsub_feed.reader.commits import XID
-from pgsub_feed.undo import restore_sql
+from pgsub_feed.reader.following import Chosen
+from pgsub_feed.reader.segments import Reader
+from pgsub_feed.undo import net, restore_sql
+from pgsub_feed.undo.transaction import undo
 
 from .feeds import ID, NAME, STOCK, delete, insert, table, truncate, update
 from .test_feed_printing import PrintingCase
@@ -144,6 +151,40 @@ class Restored(Undoing):
 
     def test_tables_without_columns(self) -> None:
         self.assertEqual(self.undone([delete(of=table(5, "none", [], "f"))])[0][1], "'{}', NULL")
+
+
+class Large(Undoing):
+    """More rows than memory has room for."""
+
+    def peak(self, end: int) -> int:
+        """How much memory it takes to print what takes the commits up to there back."""
+        reader, printed = Reader(str(self.path), 0x100), list[int]()
+        self.addCleanup(reader.close)
+        tracemalloc.start()
+        with mock.patch.object(net, "CACHE", 64):
+            undo(reader, end, Chosen(()), never, lambda text: printed.append(len(text)))
+        _, found = tracemalloc.get_traced_memory()
+        tracemalloc.stop()
+        self.assertGreater(sum(printed), 500 * (end - 0x100))
+        return found
+
+    def test_rows_are_in_a_file(self) -> None:
+        """Whatever was made of them: four times as many take as much memory."""
+        for at in range(0x100, 0x100 + 4000, 50):
+            rows = [f"{it}" for it in range(at, at + 25)]
+            lines = [insert(it, it * 200) for it in rows]
+            lines += [update([it, it * 200], [it, it * 300]) for it in rows]
+            self.feed.commit(at + 50, lines)
+        few, many = self.peak(0x100 + 1000), self.peak(0x100 + 4000)
+        self.assertLess(many, 1.5 * few)
+
+    def test_a_disk_that_is_full(self) -> None:
+        """Which may have room later."""
+        error = sqlite3.OperationalError("database or disk is full")
+        self.feed.commit(0x200, [insert("1", "a")])
+        with logged() as told, mock.patch.object(net.Net, "take", side_effect=error):
+            self.assertEqual(self.print("--undo", "0/100", "0/200", status=PASSING), "")
+        self.assertRegex(told[-1], "the temporary file for rows, .* TMPDIR says: .* is full")
 
 
 class Script(Undoing):

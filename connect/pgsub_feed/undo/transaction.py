@@ -6,109 +6,22 @@ the commits left it: where somebody has changed one since it raises an error, an
 taken back. So it does where a row can't be as it was.
 """
 
-from collections.abc import Callable, Iterable, Iterator, Sequence
-from typing import NamedTuple
+import contextlib
+import sqlite3
+from collections.abc import Callable, Iterable, Iterator
 
 from .. import log
 from ..errors import Unfit
-from ..formats.keys import key_of
 from ..interruption import Check
 from ..reader.commits import XID, Cell, Change, Commit, Missed
 from ..reader.following import Chosen
 from ..reader.polling import Poll
 from ..reader.segments import Reader
-from ..relation import Column, Relation
 from ..tables.schema import full_name
+from ..tables.sqlite_files import failed
 from ..texts import PRINTING, identifier, literal, lsn_text
 from . import restore_sql
-
-Row = tuple[Cell, ...]
-
-
-class Changed(NamedTuple):
-    """A row: before and after, None where there was none. `told` is the change that was last."""
-
-    told: str
-    was: Row | None
-    now: Row | None
-
-
-class Net:
-    """The rows of a table that were changed, each once, whatever became of it meanwhile."""
-
-    def __init__(self, relation: Relation) -> None:
-        self.relation = relation
-        # the columns by which rows are told apart all along, none where there are none
-        self.key = key_of(relation)
-        # by what a row is now, what it was before; several where there are equal rows
-        self.now: dict[Row, list[Changed]] = {}
-        self.gone: list[Changed] = []
-
-    def describe(self, relation: Relation) -> bool:
-        """Takes the definition of the next changes up. Returns whether its columns are the same."""
-        is_same = columns_of(relation) == columns_of(self.relation)
-        self.key = self.key if key_of(relation) == self.key else []
-        self.relation = relation
-        return is_same
-
-    def take(self, change: Change, told: str) -> None:
-        was = None if change.before is None else self.origin(tuple(change.before))
-        if change.after is not None:
-            now = tuple(change.after)
-            self.now.setdefault(now, []).append(Changed(told, was, now))
-        elif was is not None:
-            self.gone.append(Changed(told, was, None))
-
-    def origin(self, row: Row) -> Row | None:
-        """What a row that is changed was before all of it, None where it wasn't there."""
-        if row not in self.now:
-            return row
-        several = self.now[row]
-        last = several.pop()
-        if not several:
-            del self.now[row]
-        return last.was
-
-    def changed(self) -> list[Changed]:
-        """The rows that aren't what they were."""
-        found = [*(it for several in self.now.values() for it in several), *self.gone]
-        paired = self.by_key(found) if self.key else found
-        return [it for it in paired if it.was != it.now]
-
-    def by_key(self, found: Sequence[Changed]) -> list[Changed]:
-        """The same, the row before and the row after as one where their key is the same."""
-        before = {self.key_of(it.was): it for it in found if it.was is not None}
-        after = {self.key_of(it.now) for it in found if it.now is not None}
-        count = sum((it.was is not None) + (it.now is not None) for it in found)
-        # (where they are fewer, the key hasn't told them apart)
-        is_key = len(before) + len(after) == count
-        return list(self.paired(found, before, after) if is_key else found)
-
-    def paired(
-        self, found: Sequence[Changed], before: dict[Row, Changed], after: set[Row]
-    ) -> Iterator[Changed]:
-        left = dict(before)
-        for it in found:
-            if it.now is None:
-                continue
-            key = self.key_of(it.now)
-            if key not in left and it.was is not None and self.key_of(it.was) not in after:
-                # (its key was changed)
-                key = self.key_of(it.was)
-            yield Changed(it.told, left.pop(key).was if key in left else None, it.now)
-        yield from (Changed(it.told, it.was, None) for it in left.values())
-
-    def key_of(self, row: Row) -> Row:
-        return tuple(row[at] for at in self.key)
-
-
-def columns_of(relation: Relation) -> list[tuple[str, int, int]]:
-    return [plain(it) for it in relation.shape.columns]
-
-
-def plain(it: Column) -> tuple[str, int, int]:
-    return it.name, it.type_oid, it.modifier
-
+from .net import Changed, File, Net, Row
 
 # These say how a value is printed and a constant read, and make hidden rows an error.
 SETTLED = {**PRINTING, "xmloption": "content", "array_nulls": "on", "row_security": "off"}
@@ -164,7 +77,7 @@ def row_constant(row: Row | None) -> str:
     return "NULL" if row is None else array(map(constant, row))
 
 
-def table_line(t: int, net: Net) -> str:
+def table_line(net: Net) -> str:
     """What `pgsub_tables` has of a table at first."""
     relation = net.relation
     columns = relation.shape.columns
@@ -172,7 +85,7 @@ def table_line(t: int, net: Net) -> str:
     told = quoted(".".join(full_name(relation)))
     name = quoted(".".join(map(identifier, full_name(relation))))
     keys = ", ".join(array(str(at + 1) for at in some) for some in (net.key, equal))
-    return f"({t}, {told}, {name}, {array(quoted(it.name) for it in columns)}, {keys})"
+    return f"({net.t}, {told}, {name}, {array(quoted(it.name) for it in columns)}, {keys})"
 
 
 def row_line(t: int, it: Changed) -> str:
@@ -182,8 +95,8 @@ def row_line(t: int, it: Changed) -> str:
 class Undoing:
     """Collects what commits have made of rows, and makes the SQL that takes it back."""
 
-    def __init__(self, chosen: Chosen, begin: int, end: int) -> None:
-        self.chosen, self.begin, self.end = chosen, begin, end
+    def __init__(self, file: File, chosen: Chosen, begin: int, end: int) -> None:
+        self.file, self.chosen, self.begin, self.end = file, chosen, begin, end
         self.nets: dict[int, Net] = {}
 
     def take(self, reader: Reader, commit: Commit) -> None:
@@ -205,7 +118,9 @@ class Undoing:
         if bytes in map(type, (*(it.before or ()), *(it.after or ()))):
             text = "a value was sent in binary format, which SQL has no constant for"
             raise Unfit(f"{where}: {relation.text()}: {text}: follow without --binary")
-        net = self.nets.setdefault(relation.oid, Net(relation))
+        net = self.nets.get(relation.oid)
+        if net is None:
+            net = self.nets[relation.oid] = Net(self.file, len(self.nets) + 1, relation)
         if net.relation is not relation and not net.describe(relation):
             text = f"{relation.text()} was altered since the commits before"
             raise Unfit(f"{where}: {text}: take back only those after {lsn_text(commit.prev)}")
@@ -225,10 +140,11 @@ class Undoing:
         begin, end = lsn_text(self.begin), lsn_text(self.end)
         yield BEGIN.format(begin=begin, end=end, settings=settings)
         yield SETTLE + restore_sql.TABLES
-        rows = {t: it.changed() for t, it in enumerate(self.nets.values(), 1)}
-        for t, net in enumerate(self.nets.values(), 1):
-            yield f"INSERT INTO pgsub_tables VALUES {table_line(t, net)};\n" if rows[t] else ""
-        yield from commands(row_line(t, it) for t, some in rows.items() for it in some)
+        nets = list(self.nets.values())
+        for net in nets:
+            has_any = next(net.changed(), None) is not None
+            yield f"INSERT INTO pgsub_tables VALUES {table_line(net)};\n" if has_any else ""
+        yield from commands(row_line(net.t, it) for net in nets for it in net.changed())
         yield from (*STEPS, END)
 
 
@@ -247,8 +163,19 @@ def undo(
     reader: Reader, end: int, chosen: Chosen, check: Check, put: Callable[[bytes], None]
 ) -> None:
     """Prints the SQL that takes the commits up to an LSN back."""
-    begin, is_there = reader.at or 0, False
-    undoing = Undoing(chosen, begin, end)
+    try:
+        with contextlib.closing(File()) as file:
+            undoing = Undoing(file, chosen, reader.at or 0, end)
+            collect(undoing, reader, check)
+            for text in undoing.texts():
+                put(text.encode())
+    except sqlite3.Error as error:
+        raise failed(error, "the temporary file for rows, which lies where TMPDIR says") from None
+
+
+def collect(undoing: Undoing, reader: Reader, check: Check) -> None:
+    """Reads the commits. Raises where they aren't there."""
+    begin, end, is_there = undoing.begin, undoing.end, False
     for commit in Poll(reader, False, check).commits():
         if commit.end > end:
             break
@@ -258,8 +185,6 @@ def undo(
     if not is_there:
         text = f"no commit ends up to {lsn_text(end)} after {lsn_text(begin)}"
         raise Unfit(f"{reader.folder}: {text}")
-    if chosen.unseen:
+    if unseen := undoing.chosen.unseen:
         text = f"no commit after {lsn_text(begin)} up to {lsn_text(end)} has such a table"
-        raise Unfit(f"--table {min(chosen.unseen)}: {text}")
-    for text in undoing.texts():
-        put(text.encode())
+        raise Unfit(f"--table {min(unseen)}: {text}")
