@@ -233,6 +233,22 @@ class Taking(Case):
             self.assertEqual([it for block in blocks for it in block], numbered(1000))
             self.assertTrue(all(len(it) == 20 for it in blocks))
 
+    def test_many_rows(self) -> None:
+        """Those of a query, which come as a COPY's lines: nulls, and what is escaped."""
+        lines = [b"1\ta b\t\\N\n", b"2\t\\\\N\\t\\n\xc3\xa9\t\n", b"1\t\\N\ta b\n"]
+        body = message(b"H", bytes(3)) + copied(*lines)
+        body += message(b"c", b"") + message(b"C", b"COPY 3\0")
+        for way in WAYS:
+            with mock.patch("tests.small_server.answered", return_value=body), by(way):
+                rows = self.connect().many_rows("SELECT")
+            self.assertEqual(
+                rows, [["1", "a b", None], ["2", "\\N\t\n\xe9", ""], ["1", None, "a b"]]
+            )
+        with mock.patch("tests.small_server.answered", return_value=error("no", "42P01")):
+            with self.assertRaises(ServerError) as raised:
+                self.connect().many_rows("SELECT")
+        self.assertEqual(raised.exception.sqlstate, "42P01")
+
 
 class Encrypted(Taking):
     """All of that over TLS."""

@@ -13,7 +13,7 @@ The session is to end where it has described the table otherwise than its rows: 
 begins at P.
 
 Where the server makes no slot in time, or the table is altered or locked, the stream is let go, and
-later it is tried again. Where rows can't be read to their end the session ends, since a transaction
+later it is tried again; so it is where the rows don't fit on the disk of open transactions, once. Where rows can't be read to their end the session ends, since a transaction
 is open in it. A table that can't be added is refused: it stays as it was, its changes stay left
 out, and that is a finding. One that isn't published any more is no longer added; where its rows are
 to go, the transaction has none.
@@ -32,16 +32,18 @@ from ..copy.tries import PASSING
 from ..drift.findings import PUBLICATION, About
 from ..errors import NoSlot, Renewed, ServerError, Unconnected
 from ..stream.common import Common
+from ..stream.filter_end import NO_ROOM, FilterEnded
 from ..stream.hold import Hold
 from ..stream.memory_limit import BufferLimits
 from ..stream.statuses import Confirming
-from .replacement import LeftOut
-from .requests import Publications, Requests, Stream, TooLarge
+from .replacement import LeftOut, Rows
+from .requests import Publications, Requests, Stream, TooLarge, too_roomy
 from .turn import SLOT, RowsSender, Turn
 
 IDLE, HELD, MAKING, GOING, SENT = "idle", "held", "making", "going", "sent"
-# After how many seconds a table is tried again, first and at most, and refused after how often.
-FIRST_DELAY, LONGEST_DELAY, ATTEMPTS = 1.0, 60.0, 5
+# After how many seconds a table is tried again, first and at most, and refused after how often; and
+# after how often where the disk had no room for its rows.
+FIRST_DELAY, LONGEST_DELAY, ATTEMPTS, ROOMLESS = 1.0, 60.0, 5, 2
 
 
 class Retries:
@@ -82,8 +84,12 @@ class Retries:
             return False
         if not error.sqlstate or error.sqlstate.startswith((*PASSING, *GONE)):
             return False
-        self.counts[oid, error.sqlstate] += 1
-        return error.is_lasting() or self.counts[oid, error.sqlstate] >= ATTEMPTS
+        return self.are_too_many(oid, error.sqlstate, ATTEMPTS) or error.is_lasting()
+
+    def are_too_many(self, oid: int, why: str, most: int) -> bool:
+        """Counts what ended an attempt. Returns whether that was so often."""
+        self.counts[oid, why] += 1
+        return self.counts[oid, why] >= most
 
 
 class Adder:
@@ -108,6 +114,8 @@ class Adder:
         self.phase, self.turn, self.retries = IDLE, Turn(), Retries()
         # whether the session ends once the rows of a table are stored
         self.ends_session = False
+        # the rows that were passed on and aren't stored yet
+        self.sent: Rows | None = None
 
     # what is to be added
 
@@ -152,7 +160,20 @@ class Adder:
         if self.phase in (HELD, MAKING, GOING) or self.ends_session:
             self.hold.end()
         self.turn.close()
-        self.phase, self.ends_session = IDLE, False
+        self.phase, self.ends_session, self.sent = IDLE, False, None
+
+    def note_end(self, ended: FilterEnded) -> bool:
+        """Notes a filter's end. Returns whether a table is given up by that, whose rows didn't fit on
+        the disk of open transactions twice."""
+        rows, spool, oid = self.sent, self.confirming.filter.spool, self.turn.oid
+        if ended.said != NO_ROOM or rows is None or spool is None:
+            return False
+        if not self.retries.are_too_many(oid, NO_ROOM, ROOMLESS):
+            return False
+        part = rows.count / max(self.turn.estimated or 0, rows.count, 1)
+        size = max(int(rows.cost / part) if part else 0, spool.had)
+        self.refuse(oid, too_roomy(rows.table, size, spool.path, spool.had))
+        return True
 
     # one table
 
@@ -256,6 +277,7 @@ class Adder:
     def send(self) -> None:
         """Passes on the rows. Where that fails in part, the session ends."""
         turn, rows = self.turn, self.turn.rows()
+        self.sent = rows
         self.remembered.replaced(turn.relation(), rows.lsn)
         try:
             self.sender.send(rows, turn.blocks(), turn.estimated)
@@ -275,6 +297,7 @@ class Adder:
 
     def finish(self, oid: int, point: int) -> None:
         """The store has a table's rows."""
+        self.sent = None
         log.info(f"{self.remembered.text_of(oid)} is there, complete as of {lsn_text(point)}")
         texts = self.turn.take_found()
         self.forget(oid, texts if oid == self.turn.oid else [])

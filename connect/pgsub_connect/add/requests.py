@@ -5,12 +5,14 @@ from typing import Any, Protocol
 
 from pgsub_feed.errors import Passing, Stopped, Unfit
 from pgsub_feed.interruption import Check
+from pgsub_feed.texts import counted
 
 from ..copy.source import Source
 from ..errors import ServerError
 from ..server.catalog import Table
 from ..server.publications import sizes_of
 from ..stream.common import Common
+from ..stream.filter_end import NO_ROOM
 from ..stream.gate import CURE, TABLE
 from ..stream.memory_limit import BufferLimits
 
@@ -59,6 +61,14 @@ def too_large(table: Table, size: int, most: int) -> str:
     return (
         f"{table.text()} has at least {size} bytes, and {most} may be buffered of a transaction:"
         " give the follower a --max-buffered above that, or copy anew"
+    )
+
+
+def too_roomy(table: Table, size: int, path: str, had: int) -> str:
+    """Why a table is given up whose rows don't fit on the disk of open transactions."""
+    return (
+        f"its rows need about {counted(size, 'byte')} in {path}, whose disk has had {counted(had, 'byte')} for"
+        f" them ({NO_ROOM.partition(': ')[2]}): make room there, and `pgsub-connect refresh --table {table.text()}`"
     )
 
 
