@@ -7,6 +7,7 @@ program's statuses back.
 | the files of a store, copies and exports for readers | `store` |
 | how it goes | `status` |
 | what a server has to have | `preconditions` |
+| what was found out of one thing | `judged` |
 | recordings | `record` |
 | what may make the copy wrong | `drift` |
 | the first rows | `copy` |

@@ -3,35 +3,22 @@ version and settings, how it is reached, the role, the slot and the publications
 a start before anything is made there."""
 
 import dataclasses
-import functools
 from collections.abc import Callable, Iterator
 
 from pgsub_feed.errors import UsageError
 from pgsub_feed.texts import counted, literal
 
 from .errors import ServerError
+from .judged import ERROR, Result, error, ok, warning
 from .server.connection import Connection
 from .server.preflight import Facts, role_facts, server_facts, tables_facts
 from .server.publication_setup import REFUSED, inserts_of, keyless_text, names_of
 from .server.replica_identity import members
 from .server.transport import CURE
 
-OK, WARNING, ERROR = "ok", "warning", "error"
 # what a version of the server has first
 OLDEST, COPIES, STREAMS = 100000, 120000, 140000
 FILTERS, STANDBYS, FAILOVER = 150000, 160000, 170000
-
-
-@dataclasses.dataclass
-class Result:
-    """One precondition."""
-
-    level: str
-    name: str
-    text: str
-
-
-ok, warning, error = (functools.partial(Result, level) for level in (OK, WARNING, ERROR))
 
 
 @dataclasses.dataclass

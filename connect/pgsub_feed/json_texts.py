@@ -31,18 +31,23 @@ def compact(value: object) -> str:
 
 def parsed(text: str | bytes, longest: int = LONGEST) -> Any:
     """What a text of JSON says; without NaN and infinities, which no standard has."""
-    if len(text) > longest:
-        raise Unreadable(f"longer than {longest} bytes")
-    try:
-        found = json.loads(text, parse_constant=refuse, parse_float=finite)
-    except (ValueError, RecursionError) as error:
-        raise Unreadable(str(error)) from None
+    found = loaded(text, longest)
     level = outer_of([found])
     for _ in range(DEEPEST):
         level = [it for outer in level for it in outer_of(outer)]
     if level:
         raise Unreadable(f"deeper than {DEEPEST}")
     return found
+
+
+def loaded(text: str | bytes, longest: int = LONGEST) -> Any:
+    """The same, however deep, for who takes values of declared types from it, which have an end."""
+    if len(text) > longest:
+        raise Unreadable(f"longer than {longest} bytes")
+    try:
+        return json.loads(text, parse_constant=refuse, parse_float=finite)
+    except (ValueError, RecursionError) as error:
+        raise Unreadable(str(error)) from None
 
 
 def refuse(text: str) -> NoReturn:
@@ -94,11 +99,16 @@ def number_of(value: Any) -> float:
 
 def signed_of(value: Any) -> int:
     """A number of 32 bits."""
+    if type(value) is int and -(1 << 31) <= value <= 1 << 31:
+        return value
     return whole_of(value, -(1 << 31), 1 << 31)
 
 
 def oid_of(value: Any) -> int:
     """An OID, as a number or as the name of an object's field."""
+    # (there are many)
+    if type(value) is int and 0 <= value <= GREATEST_OID:
+        return value
     if isinstance(value, str) and value.isascii() and value.isdecimal() and len(value) <= 10:
         value = int(value)
     return whole_of(value, most=GREATEST_OID)

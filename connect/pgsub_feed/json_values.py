@@ -29,6 +29,8 @@ class Form(NamedTuple):
 
 
 def read_text(value: Any) -> str:
+    if type(value) is str and value.isascii():
+        return value
     if not is_utf_8(json_texts.text_of(value)):
         raise Unreadable("a text that isn't UTF-8")
     return str(value)
@@ -65,7 +67,7 @@ def form_of(kind: Any) -> Form:
     if dataclasses.is_dataclass(kind):
         kept = [it.name for it in dataclasses.fields(kind) if UNKEPT not in it.metadata]
         return form_of_object(kind, {name: form_of(hints[name]) for name in kept})
-    return form_of_row(lambda values: kind(*values), tuple(hints.values()))
+    return form_of_row(kind._make, tuple(hints.values()))
 
 
 def form_of_maybe(form: Form) -> Form:
@@ -93,11 +95,12 @@ def form_of_several(kind: Callable[[Any], Any], form: Form) -> Form:
 def form_of_row(kind: Callable[[Any], Any], kinds: tuple[Any, ...]) -> Form:
     """A list of one of each type."""
     forms = [form_of(it) for it in kinds]
+    reads = [it.read for it in forms]
 
     def read(said: Any) -> Any:
-        if len(list_of(said)) != len(forms):
-            raise Unreadable(f"{len(said)} values in place of {len(forms)}")
-        return kind([form.read(it) for form, it in zip(forms, said)])
+        if len(list_of(said)) != len(reads):
+            raise Unreadable(f"{len(said)} values in place of {len(reads)}")
+        return kind([read(it) for read, it in zip(reads, said)])
 
     return Form(read, lambda known: [form.written(it) for form, it in zip(forms, known)])
 
@@ -105,10 +108,12 @@ def form_of_row(kind: Callable[[Any], Any], kinds: tuple[Any, ...]) -> Form:
 def form_of_object(kind: Callable[..., Any], forms: dict[str, Form]) -> Form:
     """An object with these fields, and perhaps others, as a later version may write them."""
 
+    reads = [(name, it.read) for name, it in forms.items()]
+
     def read(said: Any) -> Any:
         if missing := forms.keys() - object_of(said).keys():
             raise Unreadable(f"there is no {min(missing)}")
-        return kind(**{name: form.read(said[name]) for name, form in forms.items()})
+        return kind(**{name: read(said[name]) for name, read in reads})
 
     def written(it: Any) -> Any:
         return {name: form.written(getattr(it, name)) for name, form in forms.items()}

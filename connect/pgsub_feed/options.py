@@ -4,18 +4,17 @@ reads their words, and the form of the help.
     begin: int | None = option("commits after this one", type=lsn, word="--from")
     follow: bool = flag("go on with the commits that come")
 
+(What only the help needs is imported for it: a start takes as long as what it imports.)
+
 An option is called as its field is, unless `word` says another name; one without dashes is known by
 its place. `value` is how the help calls the value.
 """
 
 import argparse
 import dataclasses
-import difflib
 import os
 import re
-import shutil
 import sys
-import textwrap
 from collections.abc import Callable, Iterable, Sequence
 from typing import Any
 
@@ -172,6 +171,8 @@ def paragraph(text: str, width: int) -> str:
 
 
 def wrapped(text: str, width: int, first: str, more: str) -> str:
+    import textwrap
+
     return textwrap.fill(
         text,
         width,
@@ -184,6 +185,8 @@ def wrapped(text: str, width: int, first: str, more: str) -> str:
 
 def meant(word: str, names: Iterable[str]) -> str:
     """Which name was meant by a word, as a question; "" where none is like it."""
+    import difflib
+
     close = difflib.get_close_matches(word, list(names), 1)
     return f": did you mean {close[0]}?" if close else ""
 
@@ -192,6 +195,8 @@ class Formatter(argparse.RawDescriptionHelpFormatter):
     """One whose headings are bold on a terminal, and whose paragraphs are as wide."""
 
     def __init__(self, prog: str) -> None:
+        import shutil
+
         super().__init__(prog, width=min(shutil.get_terminal_size().columns, WIDEST) - 2)
 
     def _fill_text(self, text: str, width: int, indent: str) -> str:

@@ -5,7 +5,6 @@ import errno
 import gc
 import os
 import signal
-import traceback
 from collections.abc import Callable, Iterator
 
 from . import log
@@ -82,6 +81,9 @@ def guarded(call: Callable[[], int]) -> int:
         log.error(f"{error.filename or 'a file'}: {error.strerror or error}")
         return PASSING if error.errno in PASSING_ERRORS else FILE
     except Exception:  # noqa: BLE001
+        # (a start takes as long as what it imports)
+        import traceback
+
         log.error(f"a bug: {traceback.format_exc().rstrip()}")
         return BUG
     finally:

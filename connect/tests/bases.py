@@ -9,7 +9,8 @@ from unittest import mock
 from feed_text import Definition
 
 from pgsub_connect.store import base_files
-from pgsub_connect.store.base_files import Wanted, write_base
+from pgsub_connect.store.base_files import write_base
+from pgsub_connect.store.row_frames import BaseWanted
 from pgsub_feed.interruption import never
 from pgsub_feed.relation import Column, Relation, Shape
 
@@ -45,7 +46,7 @@ def make_base(
 ) -> None:
     """Writes first rows as the connector does. `room`: how many bytes wait until they are written;
     `least`: how many a file has."""
-    wanted = Wanted(str(feed), "", 0o600, lsn, *named)
+    wanted = BaseWanted(str(feed), "", 0o600, lsn, *named)
     relations = {it.oid: relation_of(it) for it in tables}
     held = ((it.oid, body(*row), 1) for it, row in rows)
     with mock.patch.multiple(base_files, ROOM=room, LEAST=least):

@@ -82,6 +82,9 @@ class FakeConnection:
     def rows(self, command: str, limit: float = 0) -> list[Row]:
         return self.server.rows_for(command)
 
+    def many_rows(self, query: str, limit: float = 0) -> list[Row]:
+        return self.server.rows_for(query)
+
     def value(self, command: str, limit: float = 0) -> str | None:
         rows = self.server.rows_for(command)
         return rows[0][0] if rows else None

@@ -9,7 +9,7 @@ It is a plain reading of docs/PROTOCOL.md, slow, and checks no more than it need
 FILE.dies may hold an LSN in decimal: the filter kills itself before it stores the commit with that
 end, and takes the file away. With --spool it writes each change there, too, and
 FILE.fault may hold the line of a fault of that: it ends by it at its next change, and takes the
-file away.
+file away. FILE.room may hold how many bytes of changes its disk has room for.
 
 The tests start it often, so it imports little.
 """
@@ -261,8 +261,8 @@ class Store:
 class Spool:
     """The file of --spool, which nobody reads."""
 
-    def __init__(self, path: str, fault: str) -> None:
-        self.fault = fault
+    def __init__(self, path: str, fault: str, room: str) -> None:
+        self.fault, self.room, self.size = fault, room, 0
         try:
             self.file = os.open(path, os.O_WRONLY | os.O_CREAT | os.O_TRUNC | os.O_CLOEXEC, 0o666)
         except OSError:
@@ -273,6 +273,11 @@ class Spool:
             os.write(self.file, item)
         except OSError:
             raise Fault(13, "pgsub: spool 4 NoRoom") from None
+        self.size += len(item)
+        if os.path.exists(self.room):
+            with open(self.room, encoding="ascii") as file:
+                if self.size > int(file.read()):
+                    raise Fault(13, "pgsub: spool 4 NoRoom")
         if os.path.exists(self.fault):
             with open(self.fault, encoding="ascii") as file:
                 line = file.read()
@@ -506,7 +511,7 @@ def main(words: list[str]) -> int:
     path, spool = words[words.index("--store") + 1], None
     try:
         if "--spool" in words:
-            spool = Spool(words[words.index("--spool") + 1], path + ".fault")
+            spool = Spool(words[words.index("--spool") + 1], path + ".fault", path + ".room")
         store = Store(path, own=True)
     except Fault as fault:
         print(fault, file=sys.stderr, flush=True)

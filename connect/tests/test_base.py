@@ -31,7 +31,7 @@ from pgsub_connect.follow.first_rows import BaseRows
 from pgsub_connect.follow.retention import Limits, feed_bytes, remove_feed, retire
 from pgsub_connect.store import base_files
 from pgsub_connect.store.base_files import BaseFile as Written, written
-from pgsub_connect.store.copied_rows import DONE
+from pgsub_connect.store.row_frames import DONE, BaseWanted
 from pgsub_feed import Commit, Damaged, Insert, Truncate, Unfit
 from pgsub_feed.errors import FileError, Stopped
 from pgsub_feed.interruption import never
@@ -253,7 +253,7 @@ class Spoiled(BaseCase):
     def put(self, text: bytes) -> None:
         """A file with just these lines."""
         make_base(self.path, P, [], [])
-        wanted = base_files.Wanted(str(self.path), "", 0o600, P, "7", "shop", "pgsub")
+        wanted = BaseWanted(str(self.path), "", 0o600, P, "7", "shop", "pgsub")
         self.files()[0].unlink()
         file = Written(str(self.path / "base"), 1, wanted)
         file.put(text, 1)
@@ -517,7 +517,7 @@ class Process(Case):
     def setUp(self) -> None:
         super().setUp()
         os.mkdir(self.feed)
-        self.wanted = base_files.Wanted(self.feed, self.store, 0o640, POINT, "7", "shop", "pgsub")
+        self.wanted = BaseWanted(self.feed, self.store, 0o640, POINT, "7", "shop", "pgsub")
 
     def write(self, source: bytes) -> int:
         return written(self.wanted, io.BytesIO(source), never)

@@ -15,6 +15,7 @@ from pgsub_connect.server.session import Subscription
 from pgsub_connect.status.progress import Progress
 from pgsub_connect.store import base_files
 from pgsub_connect.store.base_files import written_from_store
+from pgsub_connect.store.row_frames import BaseWanted
 from pgsub_connect.store.checkpoint_lines import COPIED, FOLLOWING
 from pgsub_connect.stream.common import Common, Tolerance
 from pgsub_feed.errors import Stopped
@@ -68,9 +69,7 @@ class Written(StoreCase):
     def write(self, check: Check = never) -> int:
         self.it.close()
         source = "7", "shop", "pgsub"
-        return written_from_store(
-            base_files.Wanted(self.feed, self.store, 0o640, 1, *source), check
-        )
+        return written_from_store(BaseWanted(self.feed, self.store, 0o640, 1, *source), check)
 
     def test_rows(self) -> None:
         """Each as often as it is there, of tables that never had one too."""

@@ -332,6 +332,7 @@ class Words(FollowCase):
             assert parts.child.repeats
             self.assertEqual(parts.child.repeats.path, self.store + ".repeats")
             # (without it while it loads the first rows, which are no session)
+            assert parts.copier
             self.assertIs(parts.copier.filter, parts.child)
             checkpoint.forget_repeats.assert_not_called()
 

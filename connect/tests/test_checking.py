@@ -16,7 +16,8 @@ from unittest import mock
 from pgsub_connect.commands import check
 from pgsub_connect.errors import ServerError
 from pgsub_connect.preconditions import require, results
-from pgsub_connect.preconditions import ERROR, OK, WARNING, Purpose, Result
+from pgsub_connect.judged import ERROR, OK, WARNING, Result
+from pgsub_connect.preconditions import Purpose
 from pgsub_connect.server import preflight, session
 from pgsub_connect.server.preflight import (
     Facts,

@@ -82,7 +82,7 @@ class Interrupted(Quiet):
     def test_an_interrupt_before_a_command_has_begun_tells_nothing(self) -> None:
         folder, scripts = self.make_folder(), Path(__file__).resolve().parents[1]
         # (what each of them imports)
-        Path(folder, "difflib.py").write_text(
+        Path(folder, "argparse.py").write_text(
             "import time; print('here', flush=True); time.sleep(60)"
         )
         for name in ("pgsub-connect", "pgsub-feed"):
@@ -374,6 +374,23 @@ class Words(Quiet):
         )
         settled(["export", "--store", word, "--into", word + "x"])
         settled(["tables", "--feed", word, "--into", word + "x"])
+
+
+class Starts(unittest.TestCase):
+    def test_what_one_imports(self) -> None:
+        """A start takes as long as that: no client library before the filter opens its store, nothing
+        of a copy that is there already, nor of tables, sinks, and what only texts of errors need.
+        """
+        look = "import sys, pgsub_connect.cli, pgsub_connect.commands.follow; print(*sys.modules)"
+        words = [sys.executable, "-c", look]
+        folder = Path(pgsub_connect.__file__).parents[1]
+        done = subprocess.run(words, capture_output=True, text=True, check=True, cwd=folder)
+        imported = set(done.stdout.split())
+        self.assertIn("pgsub_connect.server.connection", imported)
+        modules = "copy.copier", "preconditions", "server.preflight", "store.copied_rows", "verify"
+        unwanted = {*(f"pgsub_connect.{it}" for it in modules), "pgsub_feed.tables.applier"}
+        unwanted |= {"psycopg", "asyncio", "ssl", "secrets", "difflib", "fractions", "traceback"}
+        self.assertEqual(imported & unwanted, set())
 
 
 class Modules(unittest.TestCase):

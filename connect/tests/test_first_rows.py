@@ -27,7 +27,8 @@ from pgsub_connect.server.catalog import Table
 from pgsub_connect.status.progress import Progress
 from pgsub_connect.store import copied_rows
 from pgsub_connect.store.checkpoint_lines import COPIED
-from pgsub_connect.store.copied_rows import DONE, Wanted, filled, rows_frame
+from pgsub_connect.store.copied_rows import filled
+from pgsub_connect.store.row_frames import DONE, TablesWanted, rows_frame
 from pgsub_feed.errors import Stopped
 from pgsub_feed.interruption import never
 from pgsub_feed.relation import Column, Shape
@@ -89,7 +90,7 @@ class Filled(Case):
     """What the process does."""
 
     def fill(self, source: bytes, **more: Any) -> int:
-        wanted = Wanted(self.rows, self.store, self.feed, BOTH, 0o640, POINT)
+        wanted = TablesWanted(self.rows, self.store, self.feed, BOTH, 0o640, POINT)
         return filled(wanted._replace(**more), io.BytesIO(source), never)
 
     def test_rows(self) -> None:

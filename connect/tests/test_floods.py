@@ -64,12 +64,23 @@ class Floods(Case):
         calls: tuple[Callable[[Connection], object], ...] = (
             lambda it: it.rows("SELECT"),
             lambda it: it.run("SET x"),
+            lambda it: it.many_rows("SELECT"),
         )
         for call in calls:
             with mock.patch.object(rows_module, "MOST", 1 << 18), self.assertRaisesRegex(
                 WrongAnswer, "is longer than"
             ):
                 call(self.flood(described(1), row(b"x" * 100) * 100))
+
+    def test_lines_without_end(self) -> None:
+        """Of a query whose rows come as a COPY's lines: the memory and the limit hold."""
+        begun, line = message(b"H", bytes(3)), message(b"d", b"x" * 100 + b"\n")
+        with mock.patch.object(rows_module, "MOST", 1 << 18), self.assertRaisesRegex(
+            WrongAnswer, "is longer than"
+        ):
+            self.flood(begun, line * 100).many_rows("SELECT")
+        with self.assertRaisesRegex(ServerError, "in time"):
+            self.flood(begun, line, 0.02).many_rows("SELECT", 0.3)
 
     def test_results_without_end(self) -> None:
         with self.assertRaisesRegex(ServerError, "in time"):
@@ -131,21 +142,17 @@ class Floods(Case):
     def test_a_slow_line_has_more_time(self) -> None:
         """By what has come: a large catalog isn't cut where the line is slow."""
         rows = rows_module.Rows()
-        rows.add(
-            mock.Mock(pgresult_ptr=None, nfields=2, get_value=lambda *_: b"x" * rows_module.SLOWEST)
-        )
+        values = [b"x" * rows_module.SLOWEST] * 2
+        with mock.patch.object(rows_module, "values_of", return_value=values):
+            rows.add(mock.Mock(nfields=2))
         self.assertEqual(rows.seconds(), 2.0)
 
     def test_texts_that_come_again_are_kept_once(self) -> None:
         rows = rows_module.Rows()
         for it in range(3 * rows_module.KEPT):
-            rows.add(
-                mock.Mock(
-                    pgresult_ptr=None,
-                    nfields=3,
-                    get_value=lambda _, at, it=it: (b"16384", b"%d" % it, None)[at],
-                )
-            )
+            values = [b"16384", b"%d" % it, None]
+            with mock.patch.object(rows_module, "values_of", return_value=values):
+                rows.add(mock.Mock(nfields=3))
         self.assertIs(rows.rows[0][0], rows.rows[1][0])
         self.assertEqual(rows.rows[-1], ["16384", str(3 * rows_module.KEPT - 1), None])
         self.assertLess(

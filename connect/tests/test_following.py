@@ -28,6 +28,7 @@ from pgsub_connect.follow import (
 from pgsub_connect.follow.follower import Follower
 from pgsub_connect.follow.snapshots import Snapshots
 from pgsub_connect.server import connection as connection_module, libpq, login, session, transport
+from pgsub_connect.server.connection import Connection
 from pgsub_connect.server.session import Server
 from pgsub_connect.server.transport import Protection
 from pgsub_connect.status.progress import Progress
@@ -162,6 +163,28 @@ class Sessions(Case):
         with open(self.store, encoding="ascii") as file:
             self.assertEqual(file.read(), str(0x108))
         self.assertEqual(read_known(self.checkpoint.path).position, 0x108)
+
+    def opened_at_logins(self, trusts: bool) -> list[bool]:
+        """Whether the filter had opened its store as the server was asked, each time."""
+        opened, connect, follower = list[bool](), session.Subscription.connect, self.follower()
+        child = follower.life.filter
+        child.left = mock.Mock(begin=mock.Mock(return_value=trusts))
+
+        def noting(*words: Any, **more: Any) -> Connection:
+            opened.append(child.has_opened())
+            return connect(*words, **more)
+
+        with mock.patch.object(session.Subscription, "connect", noting):
+            self.run_until(follower, lambda: self.server.sessions > 0)
+        return opened
+
+    def test_the_server_is_asked_while_a_filter_opens_its_store(self) -> None:
+        opened = self.opened_at_logins(True)
+        self.assertEqual((opened[0], opened[-1]), (False, True))
+
+    def test_a_filter_that_reads_all_rows_is_waited_for_first(self) -> None:
+        """A connection would be idle for as long."""
+        self.assertEqual(set(self.opened_at_logins(False)), {True})
 
     def test_keepalives_cost_no_sync_each(self) -> None:
         synced = mock.Mock(wraps=os.fdatasync)

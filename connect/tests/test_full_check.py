@@ -7,7 +7,7 @@ import os
 import time
 from pathlib import Path
 
-from pgsub_connect.preconditions import ERROR, OK, WARNING
+from pgsub_connect.judged import ERROR, OK, WARNING
 from pgsub_connect.store.full_check import judge_rows
 from pgsub_feed.errors import FileError, Stopped
 from pgsub_feed.interruption import never

@@ -14,6 +14,7 @@ LAYERS = (
     "pgsub_connect",
     "pgsub_connect.errors",
     "pgsub_connect.version",
+    "pgsub_connect.judged",
     "pgsub_connect.embedded",
     "pgsub_connect.server",
     "pgsub_connect.preconditions",

@@ -2,15 +2,19 @@
 
 from __future__ import annotations
 
+import re
 import unittest
+from pathlib import Path
 
-from pgsub_connect.add import adder, requests
+from pgsub_connect.add import adder, requests, turn
 from pgsub_connect.drift.findings import About
 from pgsub_connect.drift.remembered import Remembered
 from pgsub_connect.errors import NoSlot, ServerError, Unconnected
+from pgsub_connect.follow.spool_faults import SpoolFaults
 from pgsub_connect.follow.upkeep import Upkeep
 from pgsub_connect.store.checkpoint import read_known
 from pgsub_connect.stream import filter as stream_filter
+from pgsub_connect.stream.filter_end import FilterEnded
 from pgsub_feed.errors import Passing, Unfit
 
 from .adding_case import OTHER, THIRD, Case, Run, T
@@ -154,6 +158,44 @@ class InTheWay(Case):
         self.assertEqual((run.progress.restarts, run.remembered.found), (1, {}))
         self.assertGreater(len(waiting), 200)
         self.assertLess(max(waiting), 8 << 10)
+
+    def test_a_table_that_its_disk_has_no_room_for(self) -> None:
+        """It is tried again, in case others had the room. What it would need is told then, by the
+        status, too; the others are followed on, and the next start tries it again."""
+        self.world.commit(*(insert(T, (5000 + it, "x" * 100)) for it in range(2000)))
+        self.patch(turn, "estimated_rows", lambda *_: 2 * 2025)
+        self.patch(turn, "BLOCK", 1 << 12)
+        self.patch(SpoolFaults, "lacks_room", lambda _: False)
+        self.want(T)
+        disk = Path(self.store + ".room")
+        run, ended = Run(self), list[int]()
+        note_end = run.follower.adder.note_end
+
+        def noted(end: FilterEnded) -> bool:
+            ended.append(run.follower.adder.sent.count if run.follower.adder.sent else 0)
+            return note_end(end)
+
+        setattr(run.follower.adder, "note_end", noted)
+        disk.write_text("100000", encoding="ascii")
+        self.assertTrue(
+            run.until(lambda: any(run.remembered.wanted.values())), (self.said, run.raised)
+        )
+        self.assertEqual((len(ended), run.progress.restarts), (2, 2))
+        why = run.remembered.wanted[T]
+        found = re.search(
+            r"its rows need about (\d+) bytes in (\S+), whose disk has had \d+ bytes", why
+        )
+        assert found
+        self.assertEqual(found[2], self.store + ".spool/transactions")
+        # (as many as the server's statistics have, of which not all had come)
+        self.assertGreater(int(found[1]), 2 * 2000 * 100)
+        self.assertIn("(spool 4 NoRoom)", why)
+        self.assertEqual(run.progress.findings.adding["public.t (16385)"], why)
+        self.change()
+        self.assertTrue(run.until(lambda: self.is_stored(run)), (self.said, run.raised))
+        run.end()
+        disk.unlink()
+        self.goes_on()
 
     def test_any_size_may_be_asked_for(self) -> None:
         self.patch(requests, "sizes_of", lambda *_: {T: 1 << 50})

@@ -11,11 +11,12 @@ import os
 import stat
 import tempfile
 import unittest
+from pathlib import Path
 from unittest import mock
 
 from pgsub_connect.commands import names
 from pgsub_connect.drift.findings import MOST, NOTHING, About, Found
-from pgsub_connect.drift.remembered import Remembered
+from pgsub_connect.drift.remembered import Remembered, Summary, summary_of
 from pgsub_connect.server.catalog import Part, Partition
 from pgsub_feed.errors import FileError, Passing
 from pgsub_feed.interruption import never
@@ -105,6 +106,26 @@ class File(Case):
         self.assertEqual(kept and (kept.owner, kept.since), (10, "742"))
         self.assertEqual(after.publications(), ["pgsub", "other"])
         self.assertFalse(after.unsaved.is_urgent or after.unsaved.is_changed)
+
+    def test_what_a_start_needs_of_it_first(self) -> None:
+        """Is the same as where all of it is read, also where that says what is wrong."""
+        self.remembered.feed, self.remembered.messages = "/feed", 7
+        self.remembered.has_base = True
+        self.remembered.begin(a_catalog(T, U))
+        self.remembered.save()
+        whole = Remembered(self.store)
+        told = Summary(whole.publications(), "/feed", True, 7)
+        with mock.patch.object(Remembered, "__init__", side_effect=AssertionError):
+            self.assertEqual(summary_of(self.store), told)
+        with open(self.remembered.path, "a", encoding="ascii") as file:
+            file.write("torn")
+        self.assertEqual(summary_of(self.store), told)
+        for text, what in (("{}", "not a file of tables"), ('{"format":9}', "another version")):
+            Path(self.remembered.path).write_text(text + "\n", encoding="ascii")
+            with self.assertRaisesRegex(FileError, what):
+                summary_of(self.store)
+        os.unlink(self.remembered.path)
+        self.assertEqual(summary_of(self.store), Summary([], "", False, 0))
 
     def test_who_has_written_it_is_kept(self) -> None:
         """A publication, a table or a partition that another transaction has put there was gone in

@@ -18,6 +18,7 @@ import socket
 import socketserver
 import subprocess
 import sys
+import termios
 import threading
 import time
 import unittest
@@ -144,6 +145,18 @@ class Speaking(socketserver.StreamRequestHandler):
                 self.wfile.write(packed(calls.one(words)))
 
 
+def unread(connection: socket.socket) -> int:
+    """How many bytes wait to be read."""
+    return int.from_bytes(fcntl.ioctl(connection, termios.FIONREAD, bytes(4)), sys.byteorder)
+
+
+def no_longer_grows(connection: socket.socket) -> bool:
+    """Whether bytes wait to be read, and no more come."""
+    before = unread(connection)
+    time.sleep(0.5)
+    return 0 < before == unread(connection)
+
+
 class Sinks(FeedCase, Case):
     def hanging(self, hello: bytes, answers: dict[bytes, bytes]) -> Hanging:
         server = Hanging(hello, answers)
@@ -208,7 +221,7 @@ class Sinks(FeedCase, Case):
             pass
         said = b'{"stream":"pgsub","seq":1}'
         connection.sendall(b"MSG %b 1 %d\r\n%b\r\n" % (line.split()[2], len(said), said))
-        status, said_last = self.ends(child, lambda: True)
+        status, said_last = self.ends(child, lambda: no_longer_grows(connection))
         self.assertEqual(status, 7, said_last)
         self.assertIn("the engine doesn't answer", said_last)
 

@@ -62,6 +62,50 @@ class Case(unittest.TestCase):
             watch.compare(connection_to(FakeServer()), 100)
 
 
+class Ahead(Case):
+    """A look whose reading was begun while a filter opened its store."""
+
+    def test_it_compares_what_was_read(self) -> None:
+        """On the connection by which that was read, which goes then."""
+        server, watch = FakeServer(), self.watch()
+        catalogs = [a_catalog(T, U, lsn=200), a_catalog(T, lsn=300)]
+        with logged() as said, mock.patch(
+            "pgsub_connect.server.session.Connection", server.connect
+        ), mock.patch(
+            "pgsub_connect.follow.reading_ahead.read_catalog", side_effect=catalogs[:1]
+        ), mock.patch(
+            "pgsub_connect.follow.drift_watch.read_catalog", side_effect=catalogs[1:]
+        ):
+            watch.read_ahead()
+            self.assertTrue(watch.look_again(never, 100))
+            self.assertEqual((server.opened, server.closed), (1, 1))
+            self.assertIn("table public.u (2) joined", "".join(said))
+            # (the next one reads anew)
+            self.assertTrue(watch.look_again(never, 100))
+            self.assertEqual((server.opened, server.closed), (2, 2))
+        assert self.remembered.catalog
+        self.assertEqual(list(self.remembered.catalog.tables), [1])
+
+    def test_what_is_in_the_way_is_told_by_the_look(self) -> None:
+        """Which reads itself then, as where nothing was begun; where nobody looks it goes."""
+        server, watch = FakeServer(), self.watch()
+        with logged() as said, mock.patch(
+            "pgsub_connect.server.session.Connection", server.connect
+        ), mock.patch(
+            "pgsub_connect.follow.reading_ahead.read_catalog",
+            side_effect=ServerError("no", "42501"),
+        ), mock.patch(
+            "pgsub_connect.follow.drift_watch.read_catalog", side_effect=ServerError("no", "42501")
+        ):
+            watch.read_ahead()
+            self.assertFalse(watch.look_again(never, 100))
+            self.assertEqual((server.opened, server.closed), (2, 2))
+            self.assertIn("the publications can't be looked at now: no", "".join(said))
+            watch.read_ahead()
+            watch.finish()
+            self.assertEqual((server.opened, server.closed), (3, 3))
+
+
 class Shown(Case):
     def test_what_takes_long_is_told_in_its_time(self) -> None:
         """The log has it at once, and the progress later, or the cost would grow with the square of

@@ -11,7 +11,8 @@ from pgsub_feed.log import escaped
 from pgsub_feed.options import add_fields, flag
 
 from ..drift.remembered import Remembered
-from ..preconditions import ERROR, Purpose, results
+from ..judged import ERROR
+from ..preconditions import Purpose, results
 from ..server.preflight import all_facts
 from ..server.transport import OWN
 from ..store.at_rest import is_whole

@@ -6,6 +6,7 @@ import dataclasses
 import os
 import signal
 from collections.abc import Iterable, Iterator
+from typing import TYPE_CHECKING
 
 from pgsub_feed.errors import Stopped, Unfit
 from pgsub_feed.files import meant, remove_files
@@ -13,8 +14,6 @@ from pgsub_feed.interruption import Check, is_ended
 from pgsub_feed.options import add_fields, file, option
 from pgsub_feed.program import stop_by_signals
 
-from ..copy.copier import Copier, CopySettings
-from ..copy.slots import create_slot
 from ..drift.remembered import Remembered
 from ..errors import MISSED, LostSlot
 from ..follow.feed import Feeding
@@ -26,8 +25,6 @@ from ..follow.settings import FollowSettings
 from ..follow.snapshots import Snapshots
 from ..record import Aside
 from ..server import transport
-from ..server.preflight import require_published
-from ..server.publication_setup import Maker
 from ..status.files import STATUS, ReportSettings, Reporter
 from ..status.notify import notifier_of
 from ..status.progress import Progress
@@ -55,6 +52,10 @@ from .arguments.server import (
 )
 from .arguments.words import check_files, check_needs, each, within
 from .snapshot import check_copied
+
+if TYPE_CHECKING:
+    # (the start of one that has its store takes as long as what it imports)
+    from ..copy.copier import Copier, CopySettings
 
 ABOUT = "copy tables into a store, and follow their changes"
 ENDS = words.ENDS
@@ -87,7 +88,9 @@ class Options(
         settings = FollowSettings(self.store, self.proto, self.heartbeat, self.silence, *more)
         return dataclasses.replace(settings, messages=bool(self.messages))
 
-    def copy_settings(self) -> CopySettings:
+    def copy_settings(self) -> "CopySettings":
+        from ..copy.copier import CopySettings
+
         wanted = self.wanted(self.publication)
         more = self.limits(), self.failover, self.jobs, self.mode, bool(self.messages)
         return CopySettings(self.store, wanted, *more)
@@ -198,7 +201,7 @@ def follow_locked(options: Options, checkpoint: Checkpoint, check: Check) -> int
     """Follows, where no other connector does."""
     parts = made(options, checkpoint)
     signal.signal(signal.SIGUSR1, lambda *_: parts.snapshots.ask())
-    workers = parts.copier, parts.follower.ending
+    workers = [*([parts.copier] if parts.copier else []), parts.follower.ending]
     stop_by_signals(*workers)
     if is_ended(check):
         for worker in workers:
@@ -242,8 +245,8 @@ def no_store(options: Options) -> Unfit:
 
 @dataclasses.dataclass(frozen=True)
 class Parts:
-    """What takes part in following. `threads`: what asks the server how far it is, and what shows
-    that."""
+    """What takes part in following. `copier`: what makes the copy, where there is none; `threads`:
+    what asks the server how far it is, and what shows that."""
 
     common: Common
     feeding: Feeding
@@ -251,7 +254,7 @@ class Parts:
     child: Filter
     requests: RequestSocket
     snapshots: Snapshots
-    copier: Copier
+    copier: "Copier | None"
     follower: Follower
     threads: tuple[Asker | Reporter, ...]
 
@@ -278,7 +281,7 @@ def made(options: Options, checkpoint: Checkpoint) -> Parts:
     child = make_filter(options, checkpoint)
     progress.spool.note_path(child.spool.path if child.spool else "")
     begin_watching(options, common, child)
-    copier = Copier(options.copy_settings(), common, child, feeding.rows_beside())
+    copier = None if is_whole(store) else make_copier(options, common, child, feeding)
     recording = Aside(options.record, True, options.bytes, mode) if options.record else None
     requests = RequestSocket(store, mode)
     snapshots = Snapshots(store, requests, options.snapshot, options.snapshot_every, mode)
@@ -286,6 +289,12 @@ def made(options: Options, checkpoint: Checkpoint) -> Parts:
     follower = Follower(settings, common, child, recording, snapshots, feeding)
     threads = Asker(subscription, report.is_asked_for, progress), Reporter(report, progress)
     return Parts(common, feeding, recording, child, requests, snapshots, copier, follower, threads)
+
+
+def make_copier(options: Options, common: Common, child: Filter, feeding: Feeding) -> "Copier":
+    from ..copy.copier import Copier
+
+    return Copier(options.copy_settings(), common, child, feeding.rows_beside())
 
 
 def make_filter(options: Options, checkpoint: Checkpoint) -> Filter:
@@ -334,8 +343,10 @@ def follow_with(options: Options, parts: Parts) -> None:
     follower = parts.follower
     if not is_whole(options.store):
         begin(options, parts)
-        follower.start.note_connected(parts.copier.was_connected)
+        follower.start.note_connected(parts.copier is not None and parts.copier.was_connected)
     elif options.table or options.all_tables:
+        from ..server.preflight import require_published
+
         wanted = options.wanted(options.publication)
         require_published(parts.common.subscription, wanted, follower.ending.check_stop)
     stored, wake = follower.confirming.stored, parts.requests.wake
@@ -352,6 +363,7 @@ def begin(options: Options, parts: Parts) -> None:
         raise Unfit(text)
     if (options.create or is_interrupted) and not options.no_copy:
         with parts.child.noting_none():
+            assert parts.copier
             return parts.copier.run()
     if checkpoint.known.phase == FOLLOWING and not tolerance.accepts("gap"):
         text = f"{options.store} is gone, and the slot {checkpoint.known.slot} went on: remove {checkpoint.path} to begin anew"
@@ -359,6 +371,9 @@ def begin(options: Options, parts: Parts) -> None:
     if not options.create and not options.no_copy:
         raise no_store(options)
     if options.create:
+        from ..copy.slots import create_slot
+        from ..server.publication_setup import Maker
+
         wanted, check = options.wanted(options.publication), parts.follower.ending.check_stop
         maker = Maker(subscription, wanted, check, remembered.made, remembered.keep_made)
         create_slot(maker, options.failover, remembered, bool(options.messages))

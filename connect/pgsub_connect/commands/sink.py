@@ -15,8 +15,8 @@ from pgsub_feed.known_tables import KnownTables, known_beside
 from pgsub_feed.options import add_fields, file, flag, lsn, no, option
 from pgsub_feed.ownership import readable_by, readable_text
 from pgsub_feed.reader.folder import segments
-from pgsub_feed.sinks import connecting, kafka_engine, nats_engine, redis_calls
-from pgsub_feed.sinks.connecting import ENVIRONMENT, FORMS, scheme
+from pgsub_feed.sinks import kafka_engine, nats_engine, redis_calls, urls
+from pgsub_feed.sinks.urls import ENVIRONMENT, FORMS, scheme
 from pgsub_feed.sinks.engine import Alone, Engine
 from pgsub_feed.sinks.following import keep
 from pgsub_feed.sinks.redis_engine import Redis, Writer
@@ -87,7 +87,7 @@ class Options(FollowingOptions):
         f"where to write: {FORMS} (default: {ENVIRONMENT} of the environment)",
         "",
         nargs="?",
-        type=connecting.url,
+        type=urls.url,
         default="",
         word="URL",
     )

@@ -1,6 +1,5 @@
 """Makes slots, and drops those that were just made."""
 
-import secrets
 
 from pgsub_feed import log
 from pgsub_feed.errors import Unfit
@@ -9,7 +8,6 @@ from pgsub_feed.texts import identifier, parse_lsn
 
 from ..drift.remembered import Remembered
 from ..errors import ServerError, understood
-from ..preconditions import require
 from ..server.catalog_reader import read_catalog
 from ..server.connection import QUICK, Connection
 from ..server.publications import has_publication
@@ -20,6 +18,9 @@ from ..server.waits import Waiting
 
 def create_temporary(replication: Connection, name: str) -> tuple[str, int, str]:
     """Makes a temporary slot, named so and more; its name, consistent point and snapshot."""
+    # (a start takes as long as what it imports)
+    import secrets
+
     temporary = f"{name}_{secrets.token_hex(4)}"
     settle_for_slot(replication)
     command = f"CREATE_REPLICATION_SLOT {identifier(temporary)} TEMPORARY LOGICAL pgoutput EXPORT_SNAPSHOT"
@@ -86,6 +87,8 @@ def has_slot(
 ) -> bool:
     """Whether the slot is there. Raises where it can't be made, or lacks publications."""
     if slot_position(connection, subscription.slot) is None:
+        from ..preconditions import require
+
         require(connection, subscription.slot, False, failover, messages)
         return False
     if missing := [it for it in subscription.publications if not has_publication(connection, it)]:

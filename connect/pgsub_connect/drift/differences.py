@@ -158,7 +158,9 @@ def table_differences(oid: int, before: Catalog, now: Catalog) -> Iterator[Diffe
 def altered_differences(
     oid: int, old: Table, new: Table, before: Catalog, now: Catalog
 ) -> Iterator[Difference]:
-    """Those of a table that is there in both readings."""
+    """Those of a table that is there in both readings. (Most are the same in both.)"""
+    if old == new:
+        return
     table, about = f"table {new.text_with_oid()}", About((oid,))
     yield from of_logging(table, (oid,), old.logged, new.logged)
     told = []

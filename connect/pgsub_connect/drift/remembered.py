@@ -9,11 +9,38 @@ synced. So a reader (`pgsub-connect names`) may look at it at any time.
 
 import contextlib
 from collections.abc import Iterable
+from typing import NamedTuple
 
 from pgsub_feed.errors import FileError
+from pgsub_feed.json_texts import flag_of, list_of, text_of, whole_of
+from pgsub_feed.program import collected_rarely
 
 from .baseline import FORMAT, Baseline
 from .remembered_lines import KEPT, NOTED, DurableFile, line_of, noted_in, read_lines
+
+
+class Summary(NamedTuple):
+    """What of it a start needs before it has the lock of the checkpoint."""
+
+    publications: list[str]
+    feed: str
+    has_base: bool
+    messages: int
+
+
+def summary_of(store: str) -> Summary:
+    """That of a store. (To take all of a thousand tables up takes half as long as a start else.)"""
+    try:
+        said, _ = read_lines(store + ".tables", is_last=False)
+        if said["format"] == FORMAT:
+            names = said["catalog"]["names"] if said["catalog"] else []
+            told = text_of(said["feed"]), flag_of(said["base"]), whole_of(said.get("messages", 0))
+            return Summary([text_of(it) for it in list_of(names)], *told)
+    except (OSError, ValueError, TypeError, KeyError):
+        # (who reads all of it tells what is wrong)
+        pass
+    it = Remembered(store)
+    return Summary(it.publications(), it.feed, it.has_base, it.messages)
 
 
 class Remembered(Baseline):
@@ -97,7 +124,8 @@ class Remembered(Baseline):
                 text = f"of another version of this program (format {said['format']})"
                 raise FileError(f"{self.path}: {text}")
             # (an earlier version asked for no messages)
-            self.restore(KEPT.read({"messages": 0, **said}))
+            with collected_rarely():
+                self.restore(KEPT.read({"messages": 0, **said}))
             self.follow(more)
         except FileNotFoundError:
             raise

@@ -32,7 +32,7 @@ from typing import Any
 
 from pgsub_feed.errors import Passing, told_of
 from pgsub_feed.files import remove, replace_file
-from pgsub_feed.json_texts import LARGEST, compact, object_of, parsed, read_plain
+from pgsub_feed.json_texts import LARGEST, compact, loaded, object_of, parsed, read_plain
 from pgsub_feed.json_values import Form, Lsn, Oid, form_of
 from pgsub_feed.relation import Relation, Shape
 
@@ -154,10 +154,26 @@ def append(path: str, content: bytes, inode: int, length: int) -> bool:
     return True
 
 
-def read_lines(path: str) -> tuple[dict[str, Any], list[bytes]]:
+class FirstLine:
+    """A first line that was read, and what it says. A start reads it again, once it has the lock."""
+
+    def __init__(self) -> None:
+        self.line, self.said = b"", dict[str, Any]()
+
+    def read(self, line: bytes, is_last: bool) -> dict[str, Any]:
+        """What a line says. `is_last`: it isn't read again, and goes out of memory."""
+        said = self.said if line == self.line and self.said else object_of(loaded(line, LARGEST))
+        self.line, self.said = (b"", {}) if is_last else (line, said)
+        return said
+
+
+OWN = FirstLine()
+
+
+def read_lines(path: str, is_last: bool = True) -> tuple[dict[str, Any], list[bytes]]:
     """What a file says, and the lines added to it; not what was never synced at the end."""
     first, *more = read_plain(path, LARGEST).split(b"\n")
-    return object_of(parsed(first, LARGEST)), more[:-1]
+    return OWN.read(first, is_last), more[:-1]
 
 
 @dataclasses.dataclass(frozen=True)

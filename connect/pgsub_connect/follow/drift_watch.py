@@ -1,5 +1,6 @@
 """Watches for what makes the copy wrong without a word, and keeps it until it is accepted."""
 
+import contextlib
 import time
 from collections.abc import Iterable, Sequence
 
@@ -18,6 +19,7 @@ from ..stream.common import Common
 from ..stream.missed_rows import texts_of
 from ..stream.watch_lines import Told
 from .altered import Altered
+from .reading_ahead import PATIENCE, ReadingAhead
 
 # After how many seconds the file is written where nothing in it is urgent, the publications are
 # looked at again, and that is tried again where it failed; and after how many they are looked at
@@ -25,8 +27,6 @@ from .altered import Altered
 LATER, LOOK, AGAIN, AT_LEAST = 60.0, 1.0, 10.0, 600.0
 # At most a part in so many of the time tells what was found, where it takes so many seconds.
 PART, LITTLE = 20, 0.005
-# For how many milliseconds a look waits for a lock. From 16 on the server opens each table for it.
-PATIENCE = 500
 LOCK_TIMEOUT = "55P03"
 # The kinds that a filter which is to be strict ends at.
 STOPPING = (RULE, REPEAT)
@@ -43,6 +43,8 @@ class Watch:
         # when the publications were looked at last
         self.looked = time.monotonic()
         self.is_told = self.is_hindered = False
+        # what reads the catalog for the look at the session's start
+        self.ahead: ReadingAhead | None = None
         # whether the progress has all that was found, and when it may be told again, as is seldom
         self.is_shown, self.next_show = True, 0.0
 
@@ -104,12 +106,13 @@ class Watch:
         self.progress.findings.note({kind: "; ".join(self.texts_of(kind)) for kind in kinds})
         return kinds
 
-    def compare(self, connection: Connection, position: int) -> bool:
-        """Compares what the server has with what is remembered; false where a lock is held."""
+    def compare(self, connection: Connection, position: int, now: Catalog | None = None) -> bool:
+        """Compares what the server has with what is remembered; false where a lock is held. `now`:
+        what it has, where that was read already."""
         remembered = self.remembered
         try:
             connection.run(f"SET lock_timeout = {PATIENCE}", limit=QUICK)
-            now = read_catalog(connection, self.subscription.publications)
+            now = now or read_catalog(connection, self.subscription.publications)
             now = resolved(connection, remembered.catalog, now) if remembered.catalog else now
             connection.run("SET lock_timeout = 0", limit=QUICK)
         except ServerError as error:
@@ -157,12 +160,21 @@ class Watch:
 
     def look_again(self, check: Check, position: int) -> bool:
         """Compares on a connection of its own. Returns whether that was possible."""
+        read, self.ahead = self.ahead.take(check) if self.ahead else None, None
         try:
+            if read:
+                with contextlib.closing(read[0]):
+                    return self.compare(read[0], position, read[1])
             with self.subscription.connected("tables", check) as connection:
                 return self.compare(connection, position)
         except ServerError as error:
             self.tell_hindered(error)
             return False
+
+    def read_ahead(self) -> None:
+        """Begins to read what the next look compares."""
+        self.ahead = ReadingAhead(self.subscription)
+        self.ahead.start()
 
     def tell_hindered(self, error: ServerError) -> None:
         """Tells once why a look isn't possible, until one is: a lock may be held for hours."""
@@ -234,6 +246,9 @@ class Watch:
 
     def finish(self) -> None:
         """Writes what isn't urgent, at the end of a session."""
+        if self.ahead:
+            self.ahead.give_up()
+        self.ahead = None
         if self.remembered.unsaved.is_changed:
             try:
                 self.remembered.save()

@@ -52,8 +52,18 @@ class FilterLife:
         # whether a filter has begun here; one that runs before that has loaded the first rows
         self.has_begun = False
 
-    def start(self) -> None:
+    def launch(self) -> None:
+        """Starts the filter, unless it runs. One that opens its store at once isn't waited for: the
+        server is asked meanwhile."""
         if not self.filter.is_running():
+            self.progress.enter("opening the store")
+            self.filter.launch()
+        if not self.filter.trusts:
+            self.start()
+
+    def start(self) -> None:
+        """Waits until the filter has opened its store, and starts it first unless it runs."""
+        if self.filter.is_opening() or not self.filter.is_running():
             self.progress.enter("opening the store")
             self.begin(self.open_store())
         elif not self.has_begun:

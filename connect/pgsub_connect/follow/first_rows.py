@@ -23,9 +23,8 @@ from pgsub_feed.reader.base import has_base, remove_begun
 
 from ..copy.rows_beside import RowsBeside
 from ..server.catalog import Table
-from ..store import base_files, copied_rows
 from ..store.checkpoint import Checkpoint
-from ..store.copied_rows import DONE, rows_frame
+from ..store.row_frames import DONE, BaseWanted, TablesWanted, rows_frame
 from .process_beside import START, TablesSettings, environment
 
 CODE = f"{START}from pgsub_connect.store import base_files, copied_rows; %s()"
@@ -44,7 +43,7 @@ class FromCopy(RowsBeside):
         self.has_all = False
         self.writing = threading.Lock()
 
-    def wanted(self, point: int) -> copied_rows.Wanted | base_files.Wanted:
+    def wanted(self, point: int) -> TablesWanted | BaseWanted:
         """What it is told."""
         raise NotImplementedError
 
@@ -122,9 +121,9 @@ class FirstRows(FromCopy):
         super().__init__(settings.path, "copied_rows.run", checkpoint)
         self.settings = settings
 
-    def wanted(self, point: int) -> copied_rows.Wanted:
+    def wanted(self, point: int) -> TablesWanted:
         it = self.settings
-        return copied_rows.Wanted(it.path, it.store, it.feed, it.numeric, it.mode, point)
+        return TablesWanted(it.path, it.store, it.feed, it.numeric, it.mode, point)
 
     def is_ready(self, check: Check) -> bool:
         """(It has begun before anything follows, by which tables may be altered.)"""
@@ -156,10 +155,10 @@ class BaseRows(FromCopy):
         super().__init__(feed, "base_files.run", checkpoint.file)
         self.store, self.mode, self.known = store, mode, checkpoint
 
-    def wanted(self, point: int) -> base_files.Wanted:
+    def wanted(self, point: int) -> BaseWanted:
         it = self.known.known
         source = it.system, it.database, it.slot
-        return base_files.Wanted(self.name, self.store, self.mode, point, *source)
+        return BaseWanted(self.name, self.store, self.mode, point, *source)
 
     def forget(self, child: int) -> None:
         remove_begun(self.name)

@@ -85,12 +85,15 @@ class Follower:
         self.adder.begin()
         while not self.ending.stop_asked:
             try:
-                self.life.start()
+                self.life.launch()
                 self.session.run()
             except Stopped:
                 break
             except FilterEnded as ended:
                 self.life.note_end(ended)
+                if self.adder.note_end(ended):
+                    # (nothing else needs the room)
+                    self.life.spool.begin_filter()
             except ServerError as error:
                 self.note_error(error)
             finally:

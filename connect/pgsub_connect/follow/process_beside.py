@@ -18,7 +18,6 @@ import subprocess
 import sys
 import threading
 import time
-import urllib.parse
 from collections.abc import Mapping, Sequence
 from typing import IO
 
@@ -26,8 +25,7 @@ from pgsub_feed import log
 from pgsub_feed.errors import FileError
 from pgsub_feed.interruption import Check, never
 from pgsub_feed.reader.folder import READERS
-from pgsub_feed.sinks.connecting import ENVIRONMENT
-from pgsub_feed.sinks.following import WAITS
+from pgsub_feed.sinks.urls import ENVIRONMENT
 from pgsub_feed.tables.set_aside import shown_asides
 from pgsub_feed.tables.sqlite_files import is_tables, opened
 from pgsub_feed.tables.values import BOTH
@@ -303,16 +301,20 @@ class SinkSettings:
 
     def where(self) -> str:
         """The URL without name and password, which may be after a `?` too, by which it is called."""
+        from urllib.parse import parse_qs
+
         scheme, _, rest = self.url.partition("://")
         place, _, query = rest.partition("?")
-        words = urllib.parse.parse_qs(query)
+        words = parse_qs(query)
         told = [f"?{it}={words[it][0]}" for it in ("db", "topic.prefix") if it in words]
         return f"{scheme}://{place.rpartition('@')[2]}{''.join(told)}"
 
     def reader(self) -> str:
         """Its name as a reader of the feed."""
+        from urllib.parse import quote
+
         scheme, _, place = self.where().partition("://")
-        return f"sink-{scheme}-{urllib.parse.quote(place, safe='')}"
+        return f"sink-{scheme}-{quote(place, safe='')}"
 
     def words(self) -> list[str]:
         """How it is started; the URL goes where no other account reads it."""
@@ -336,6 +338,8 @@ class Sink(ProcessBeside):
 
     def note_said(self, level: str, text: str) -> None:
         """Shows that it waits, or why it ends, until it is well again."""
+        from pgsub_feed.sinks.following import WAITS
+
         if level == "info" or level == "error" or WAITS in text:
             self.feed.note_sink(self.name, "" if level == "info" else text)
 

@@ -33,8 +33,12 @@ class Session:
         self.silent = 0.0
 
     def connect(self) -> Connection:
-        """Connects, and starts the session."""
-        self.connection = connection = self.start.log_in()
+        """Connects, and starts the session. (A filter may open its store meanwhile.)"""
+        try:
+            self.connection = connection = self.start.log_in()
+        finally:
+            if self.filter.is_opening():
+                self.life.start()
         self.start.begin(connection)
         self.standing.begin_session()
         return connection

@@ -86,8 +86,12 @@ class SessionStart:
         self.was_connected = was_connected
 
     def log_in(self) -> Connection:
+        """Connects. What the server has is read while the filter still opens its store."""
         self.progress.enter("connecting")
-        return self.subscription.connect(self.ending.check_stop, replication=True)
+        connection = self.subscription.connect(self.ending.check_stop, replication=True)
+        if self.filter.is_opening():
+            self.life.watch.read_ahead()
+        return connection
 
     def begin(self, connection: Connection) -> None:
         """Checks that the store and the slot fit together, and starts the session."""

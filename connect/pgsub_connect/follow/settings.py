@@ -5,7 +5,6 @@ import dataclasses
 from pgsub_feed import log
 from pgsub_feed.program import Worker
 
-from ..preconditions import require_messages
 from ..server.session import ABORTS_IN_VERSION_1, STREAMS, tell_version_1
 from ..status.progress import Progress
 from ..stream.memory_limit import BufferLimits
@@ -86,6 +85,9 @@ class StreamForm:
         version 2 without streaming.
         """
         if self.messages:
+            # (a start takes as long as what it imports)
+            from ..preconditions import require_messages
+
             require_messages(version)
         if version < STREAMS and self.proto == 2:
             tell_version_1()

@@ -11,8 +11,7 @@ from pgsub_feed.texts import literal, parse_lsn
 from ..errors import WrongAnswer, understood
 from .catalog import ACTIONS, Catalog, Part, Partition, Publication, Table, types_having
 from .column_types import read_column_types
-from .connection import QUICK, Connection
-from .libpq import Row
+from .connection import QUICK, Connection, Row
 
 # From which versions on the server tells exactly what columns are sent, and has lists and filters.
 EXACT, FINE = 180000, 150000
@@ -121,7 +120,7 @@ def read_parts(connection: Connection, names: list[str], limit: float = INFINITE
     row_filter = "pg_catalog.pg_get_expr(g.qual, g.relid)" if fine else "NULL"
     listed = "pg_catalog.array_to_string(r.prattrs::pg_catalog.int2[], ',')" if fine else "NULL"
     sent = "pg_catalog.array_to_string(g.attrs::pg_catalog.int2[], ',')" if fine else "NULL"
-    rows = connection.rows(
+    rows = connection.many_rows(
         f"SELECT p.pubname, c.oid, n.nspname, c.relname, c.relkind, c.relreplident, {row_filter}, {listed}, {sent},"
         f" {is_whole(connection, 'c')}, {UNTOUCHED}, {UNWRITTEN}, pg_catalog.pg_relation_filenode(c.oid), {ALTERED},"
         f" {LOGGED}, c.reltoastrelid FROM pg_catalog.pg_publication p"
@@ -168,7 +167,7 @@ def read_columns(connection: Connection, oids: list[int]) -> dict[int, list[tupl
     """All columns of tables, and whether each is generated. A key column is one of the replica
     identity's index, or any one under REPLICA IDENTITY FULL."""
     generated = "a.attgenerated <> ''" if connection.version() >= 120000 else "false"
-    rows = connection.rows(
+    rows = connection.many_rows(
         f"SELECT a.attrelid, a.attname, a.atttypid, a.atttypmod, a.attnum, {generated},"
         " c.relreplident = 'f' OR EXISTS (SELECT FROM pg_catalog.pg_index i"
         f"  WHERE i.indrelid = a.attrelid AND {UNIQUE}"
@@ -188,7 +187,7 @@ def read_columns(connection: Connection, oids: list[int]) -> dict[int, list[tupl
 def read_keys(connection: Connection, oids: list[int]) -> dict[int, list[str]]:
     """The columns of tables' primary keys, in the key's order; none of a deferrable one, which may
     have equal values within a transaction."""
-    rows = connection.rows(
+    rows = connection.many_rows(
         "SELECT i.indrelid, a.attname FROM pg_catalog.pg_index i"
         " CROSS JOIN LATERAL pg_catalog.unnest((i.indkey::pg_catalog.int2[])[0:i.indnkeyatts - 1])"
         " WITH ORDINALITY k (attnum, place)"
@@ -212,7 +211,7 @@ UNLIKE = (
 
 def read_indexes(connection: Connection, oids: list[int]) -> dict[int, list[Index]]:
     """All indexes of tables, with the columns that they include."""
-    rows = connection.rows(
+    rows = connection.many_rows(
         f"SELECT i.indrelid, i.indexrelid, c.relname, {UNLIKE}, a.attname,"
         " COALESCE((i.indoption::pg_catalog.int2[])[k.place - 1] & 1, 0) = 1 FROM pg_catalog.pg_index i"
         " JOIN pg_catalog.pg_class c ON c.oid = i.indexrelid JOIN pg_catalog.pg_am m ON m.oid = c.relam"
@@ -239,7 +238,7 @@ def read_partitions(connection: Connection, names: list[str]) -> dict[int, Parti
 
     (pg_partition_tree would wait for locks.)
     """
-    rows = connection.rows(
+    rows = connection.many_rows(
         "WITH RECURSIVE t (oid, parent) AS ("
         " SELECT root.oid, i.inhparent FROM pg_catalog.pg_publication p JOIN pg_catalog.pg_class root ON root.relkind = 'p'"
         f"  AND ({is_whole(connection, 'root')} OR EXISTS (SELECT FROM pg_catalog.pg_publication_rel r"
@@ -301,7 +300,7 @@ def read_members(connection: Connection, names: list[str]) -> Members:
             f" JOIN pg_catalog.pg_class c ON c.relnamespace = s.pnnspid AND c.relkind IN ('r', 'p') LEFT JOIN {PUT} WHERE {listed}"
         )
     members: Members = {}
-    for name, relation, entry in connection.rows(query, QUICK):
+    for name, relation, entry in connection.many_rows(query, QUICK):
         members.setdefault(name or "", {}).setdefault(number(relation), []).append(entry or "")
     return members
 
@@ -343,7 +342,7 @@ def read_types(connection: Connection, oids: list[int]) -> dict[int, dict[str, s
     of composite types' parts by number. Both of all types that columns have in them, in arrays,
     domains, ranges, composites. Of the other types, which types they have in them that lead to such
     a one."""
-    rows = connection.rows(
+    rows = connection.many_rows(
         "WITH RECURSIVE t (oid) AS ("
         f" SELECT a.atttypid FROM pg_catalog.pg_attribute a WHERE a.attrelid IN ({listed_oids(oids)}) AND a.attnum > 0"
         f" UNION SELECT u.oid FROM t JOIN pg_catalog.pg_type y ON y.oid = t.oid, LATERAL ({PARTS}) u WHERE u.oid <> 0)"

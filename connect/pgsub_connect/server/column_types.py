@@ -5,8 +5,7 @@ from collections.abc import Iterable
 
 from pgsub_feed.relation import BaseType, ColumnType
 
-from .connection import QUICK, Connection
-from .libpq import Row
+from .connection import QUICK, Connection, Row
 
 # From which version on a NOT NULL may be one that isn't valid, as the table may have nulls still.
 UNVALIDATED = 180000
@@ -44,7 +43,7 @@ def read_column_types(connection: Connection, oids: Iterable[int]) -> ColumnType
             " AND NOT EXISTS (SELECT FROM pg_catalog.pg_constraint k WHERE k.conrelid = a.attrelid"
             " AND k.contype = 'n' AND NOT k.convalidated AND a.attnum = ANY (k.conkey))"
         )
-    rows = connection.rows(
+    rows = connection.many_rows(
         f"{DOMAINS} SELECT a.attrelid, a.attnum, {name_of('y', 'n', 'a.atttypmod')},"
         f" {not_null} OR y.typnotnull, e.oid, {name_of('b', 'm', 'd.modifier')}, b.oid, d.modifier"
         " FROM pg_catalog.pg_attribute a JOIN pg_catalog.pg_type y ON y.oid = a.atttypid"
@@ -62,7 +61,7 @@ def read_column_types(connection: Connection, oids: Iterable[int]) -> ColumnType
 
 def read_labels(connection: Connection, oids: set[int]) -> dict[int, list[str]]:
     """The labels of enumerations, in their order."""
-    rows = connection.rows(
+    rows = connection.many_rows(
         "SELECT e.enumtypid, e.enumlabel FROM pg_catalog.pg_enum e"
         f" WHERE e.enumtypid IN ({', '.join(map(str, sorted(oids))) or 'NULL'})"
         " ORDER BY e.enumtypid, e.enumsortorder",

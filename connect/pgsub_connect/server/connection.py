@@ -1,32 +1,36 @@
 """Connections to a server by libpq (psycopg.pq): its passwords, TLS, services and environment."""
 
+from __future__ import annotations
+
 import contextlib
 import select
 import threading
 import time
 from collections.abc import Iterator
 
-import psycopg
-from psycopg import pq
-
 from pgsub_feed.interruption import Check, never
 from pgsub_feed.texts import said_text, shortened
 
 from ..errors import ServerError, Unconnected, WrongAnswer, understood
 from . import login
-from .libpq import ENDED, TICK, Rows, Slow, is_by_gssapi, ready, wire_of
+from .calls import libpq
+from .library import errors, pq
 from .login import DEFAULTS, parameters
 from .notices import Notices
 
+Row = list[str | None]
 # After how many seconds a command is given up that takes no time at the server.
 QUICK = 60.0
 # After how many rows that have come already it is looked for the end, which costs more than a row.
 ROWS_UNSEEN = 256
-DONE = (pq.ExecStatus.EMPTY_QUERY, pq.ExecStatus.COMMAND_OK, pq.ExecStatus.TUPLES_OK)
-ROWS = (pq.ExecStatus.TUPLES_OK,)
-COPY_OUT = (pq.ExecStatus.COPY_OUT,)
-COPY_BOTH = (pq.ExecStatus.COPY_BOTH,)
-COPIES = (pq.ExecStatus.COPY_OUT, pq.ExecStatus.COPY_BOTH, pq.ExecStatus.COPY_IN)
+# How many bytes of a COPY's lines are taken at a time.
+ROWS_AT_ONCE = 1 << 16
+# libpq's PGRES_EMPTY_QUERY, PGRES_COMMAND_OK, PGRES_TUPLES_OK, PGRES_COPY_OUT and those behind it.
+DONE, ROWS = (0, 1, 2), (2,)
+COPY_OUT, COPY_BOTH = (3,), (8,)
+COPIES, SINGLE_TUPLE = (3, 4, 8), 9
+# What PQgetCopyData returns after the last message.
+ENDED = -1
 # How many bytes are dropped at a time.
 DRAINED = 1 << 20
 # How much libpq asks of the system at least where it reads, and how much is a lot, in bytes.
@@ -69,7 +73,7 @@ class Connection:
         self.notices = Notices(self.left_out)
         self.raw.notice_handler = None if quiet else self.notices.hear
         self.number = self.raw.socket
-        self.wire = wire_of(self.raw)
+        self.wire = libpq.wire_of(self.raw)
 
     def set_check(self, check: Check) -> None:
         """Has this called from now on while something is waited for."""
@@ -95,7 +99,7 @@ class Connection:
                 self.check()
                 if time.monotonic() > until:
                     raise ServerError("the server didn't answer in time")
-                has_come = ready(self.number, reads=True, writes=self.unsent)
+                has_come = libpq.ready(self.number, reads=True, writes=self.unsent)
                 if self.unsent:
                     self.flush()
             except BaseException:
@@ -115,12 +119,12 @@ class Connection:
 
     def cancel(self) -> None:
         """Asks the server to end the command that runs: it goes on after a close else."""
-        with contextlib.suppress(psycopg.Error):
+        with contextlib.suppress(errors.Error):
             handle = self.raw.get_cancel()
             # (libpq's own call has no limit)
             thread = threading.Thread(target=cancel_by, args=(handle,), daemon=True)
             thread.start()
-            thread.join(TICK / 2)
+            thread.join(libpq.TICK / 2)
 
     def next_result(self, until: float = float("inf")) -> pq.abc.PGresult | None:
         """The next result of the command that runs, None after the last."""
@@ -129,13 +133,13 @@ class Connection:
         return self.raw.get_result()
 
     def run(
-        self, command: str, wanted: tuple[pq.ExecStatus, ...] = DONE, limit: float = float("inf")
-    ) -> Rows:
+        self, command: str, wanted: tuple[int, ...] = DONE, limit: float = float("inf")
+    ) -> libpq.Rows:
         """Runs a command for its rows or copy. `limit`: when the connection is given up."""
-        found, last = Rows(), None
+        found, last = libpq.Rows(), None
         try:
             last = self.answer(command, time.monotonic() + limit, found)
-        except psycopg.OperationalError as error:
+        except errors.OperationalError as error:
             raise ServerError(shortened(str(error))) from None
         except WrongAnswer:
             self.cancel()
@@ -144,14 +148,14 @@ class Connection:
             raise self.unwanted(command, last)
         return found
 
-    def answer(self, command: str, until: float, found: Rows) -> pq.abc.PGresult | None:
+    def answer(self, command: str, until: float, found: libpq.Rows) -> pq.abc.PGresult | None:
         """The last result of a command, or that which begins to copy. Rows come one by one."""
         self.raw.send_query(command.encode())
         self.raw.set_single_row_mode()
         self.flush()
         last = None
         while result := self.next_result(until + found.seconds()):
-            is_row = result.status == pq.ExecStatus.SINGLE_TUPLE
+            is_row = result.status == SINGLE_TUPLE
             if not is_row or len(found.rows) % ROWS_UNSEEN == 0:
                 self.look(until + found.seconds())
             if is_row:
@@ -180,6 +184,24 @@ class Connection:
     def rows(self, command: str, limit: float = float("inf")) -> list[list[str | None]]:
         """Runs a query, and returns its rows as lists of texts, None for null."""
         return self.run(command, ROWS, limit).rows
+
+    def many_rows(self, query: str, limit: float = float("inf")) -> list[list[str | None]]:
+        """The same of a query that may have thousands, as a COPY's lines: one by one each row of a
+        result takes many times as long."""
+        found, until, last = libpq.Rows(), time.monotonic() + limit, 1
+        self.run(f"COPY ({query}) TO STDOUT", COPY_OUT, limit)
+        try:
+            while last >= 0:
+                lines, last, _ = self.wire.take(ROWS_AT_ONCE, ROWS_AT_ONCE)
+                found.add_lines(lines)
+                self.look(until + found.seconds())
+                if last == 0:
+                    self.wait(until + found.seconds())
+        except WrongAnswer:
+            self.cancel()
+            raise
+        self.end_rows(last)
+        return found.rows
 
     def value(self, command: str, limit: float = float("inf")) -> str | None:
         """The first value of a query's first row, None where there is no row."""
@@ -210,7 +232,7 @@ class Connection:
         """Whether TLS or GSSAPI may have read bytes of the server that haven't come yet."""
         if self.raw.ssl_in_use or self.raw.host.startswith((b"/", b"@")):
             return bool(self.raw.ssl_in_use)
-        return is_by_gssapi(self.raw) is not False
+        return libpq.is_by_gssapi(self.raw) is not False
 
     def copied_blocks(self, command: str, size: int) -> Iterator[list[bytes]]:
         """Yields the lines of a COPY TO STDOUT in blocks of about so many bytes."""
@@ -224,6 +246,12 @@ class Connection:
                 lines, left = [], size
             elif last == 0:
                 self.wait()
+        self.end_rows(last)
+        if lines:
+            yield lines
+
+    def end_rows(self, last: int) -> None:
+        """After the last line of a COPY. Raises the error with which it ended, if it did."""
         if last != ENDED:
             raise ServerError(self.error())
         last_result = None
@@ -231,8 +259,6 @@ class Connection:
             last_result = result
         if last_result is not None and last_result.error_message:
             raise self.error_of(last_result)
-        if lines:
-            yield lines
 
     def consume(self) -> None:
         """Reads what has come on the socket."""
@@ -243,7 +269,7 @@ class Connection:
         """The payload of the next CopyData, b"" where none is there yet, None after the last."""
         try:
             length, payload = self.raw.get_copy_data(1)
-        except psycopg.OperationalError as error:
+        except errors.OperationalError as error:
             raise ServerError(shortened(str(error))) from None
         if length > 0:
             whole = payload.obj
@@ -312,7 +338,7 @@ class Connection:
 
     def end_copy(self) -> None:
         """Tells the server that nothing more is sent, within a second, heard or not."""
-        with contextlib.suppress(psycopg.OperationalError, ServerError):
+        with contextlib.suppress(errors.OperationalError, ServerError):
             self.raw.put_copy_end()
             self.flush()
             if self.unsent:
@@ -322,7 +348,7 @@ class Connection:
     def drain(self, seconds: float) -> None:
         """Drops, for so many seconds, what still comes of CopyData whose end was asked for."""
         until = time.monotonic() + seconds
-        with contextlib.suppress(psycopg.OperationalError, ServerError):
+        with contextlib.suppress(errors.OperationalError, ServerError):
             while not self.broken and (left := until - time.monotonic()) > 0:
                 if select.select([self.number], [], [], left)[0]:
                     self.consume()
@@ -333,10 +359,10 @@ class Connection:
 
     def close(self) -> None:
         self.notices.end()
-        self.wire = Slow(self.raw)
+        self.wire = libpq.Slow(self.raw)
         self.raw.finish()
 
 
 def cancel_by(handle: pq.abc.PGcancel) -> None:
-    with contextlib.suppress(psycopg.Error):
+    with contextlib.suppress(errors.Error):
         handle.cancel()

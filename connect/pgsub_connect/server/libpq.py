@@ -2,6 +2,8 @@
 query as they come, within a limit, so that no server fills the memory, and the many messages of a
 session that is copied from and to, which nothing waits for."""
 
+from __future__ import annotations
+
 import contextlib
 import ctypes
 import mmap
@@ -11,12 +13,11 @@ import sys
 from pathlib import Path
 from typing import Any
 
-import psycopg
-from psycopg import pq
-
 from pgsub_feed.texts import LONGEST, said_text
 
 from ..errors import WrongAnswer
+from .copied_text import NULL, unescaped
+from .library import errors, pq
 
 # PQERRORS_DEFAULT and PQERRORS_VERBOSE.
 DEFAULT, VERBOSE = 1, 2
@@ -98,9 +99,24 @@ class Rows:
         width = result.nfields
         self.taken += ROW + VALUE * width
         self.rows.append([self.text(it) for it in values_of(result, width)])
+        self.check()
+
+    def check(self) -> None:
         if self.taken > MOST:
             text = f"the server's answer is longer than {MOST >> 20} MB"
             raise WrongAnswer(f"{text}, after {len(self.rows)} rows: it is read no further")
+
+    def add_lines(self, lines: list[bytes]) -> None:
+        """Adds rows in COPY's text."""
+        text_of = self.text
+        for line in lines:
+            cells = line[:-1].split(b"\t")
+            self.taken += ROW + VALUE * len(cells)
+            if b"\\" in line:
+                self.rows.append([None if it == NULL else text_of(plain(it)) for it in cells])
+            else:
+                self.rows.append([text_of(it) for it in cells])
+            self.check()
 
     def text(self, value: bytes | None) -> str | None:
         if value is None:
@@ -119,6 +135,11 @@ class Rows:
     def seconds(self) -> float:
         """How much more time what has come was worth, on a slow line."""
         return self.received / SLOWEST
+
+
+def plain(cell: bytes) -> bytes:
+    """The value of a cell of COPY's text."""
+    return unescaped(cell) if b"\\" in cell else cell
 
 
 def values_of(result: pq.abc.PGresult, width: int) -> list[bytes | None]:
@@ -186,7 +207,7 @@ class Slow:
         try:
             self.raw.consume_input()
             return True
-        except psycopg.OperationalError:
+        except errors.OperationalError:
             return False
 
     def take(self, room: int, long: int) -> Taken:
@@ -196,7 +217,7 @@ class Slow:
         while room > 0:
             try:
                 length, view = self.raw.get_copy_data(1)
-            except psycopg.OperationalError:
+            except errors.OperationalError:
                 return found, FAILED, room
             if length <= 0:
                 break
@@ -209,7 +230,7 @@ class Slow:
         try:
             self.raw.put_copy_data(payload)
             return self.raw.flush()
-        except psycopg.OperationalError:
+        except errors.OperationalError:
             return FAILED
 
     def flush(self) -> int:
@@ -217,7 +238,7 @@ class Slow:
         does, and less where that failed."""
         try:
             return self.raw.flush()
-        except psycopg.OperationalError:
+        except errors.OperationalError:
             return FAILED
 
 

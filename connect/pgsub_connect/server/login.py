@@ -1,24 +1,22 @@
 """Connecting to the first host and address that is there, as libpq has them, judged by how it is
 protected: the settings of a DSN, its hosts and their addresses."""
 
+from __future__ import annotations
+
 import contextlib
-import difflib
 import errno
 import ipaddress
 import os
 import re
 import time
 
-import psycopg
-from psycopg import pq
-from psycopg.conninfo import conninfo_to_dict, make_conninfo
-
 from pgsub_feed.interruption import Check, looked_up, undone_by
 from pgsub_feed.texts import said_text
 
 from ..errors import LOGIN, ServerError, Unconnected
 from . import transport
-from .libpq import DEFAULT, VERBOSE, is_by_gssapi, ready, set_verbosity
+from .calls import libpq
+from .library import conninfo, errors as of_psycopg, pq
 
 # After how many seconds a host is given up, at most.
 CONNECT_LIMIT = 10.0
@@ -36,8 +34,8 @@ def parameters(dsn: str) -> dict[str, str]:
     if dsn and "=" not in dsn and not dsn.startswith(("postgresql://", "postgres://")):
         return {"dbname": dsn}
     try:
-        return {name: str(value) for name, value in conninfo_to_dict(dsn).items()}
-    except psycopg.ProgrammingError as error:
+        return {name: str(it) for name, it in conninfo.conninfo_to_dict(dsn).items()}
+    except of_psycopg.ProgrammingError as error:
         text = f"the connection string is not one of libpq's{mistyped(str(error))}"
         raise ServerError(text, "22023") from None
 
@@ -45,6 +43,9 @@ def parameters(dsn: str) -> dict[str, str]:
 def mistyped(said: str) -> str:
     """Which parameter isn't one, as libpq has said, where it is like another one: what else libpq
     says may have a part of a password in it."""
+    # (a start takes as long as what it imports)
+    import difflib
+
     names = [it.keyword.decode() for it in pq.Conninfo.get_defaults()]
     for word in re.findall('"([^"]*)"', said):
         if close := difflib.get_close_matches(word, names, 1):
@@ -120,11 +121,12 @@ def where(settings: dict[str, str]) -> str:
 
 # What a verbose error adds: a code, and a last line with a place in its source.
 CODE, PLACE_IN_SOURCE = re.compile(r":  ([0-9A-Z]{5}): "), re.compile(r"\n[^\n]*\.c:\d+$", re.M)
-DONE = (pq.PollingStatus.OK, pq.PollingStatus.FAILED)
+# PGRES_POLLING_OK and PGRES_POLLING_FAILED.
+DONE = (3, 0)
 
 
 # A connection, and how it is protected.
-Connected = tuple[pq.abc.PGconn, transport.Protection]
+Connected = tuple["pq.abc.PGconn", transport.Protection]
 
 
 def connect(settings: dict[str, str], check: Check) -> Connected:
@@ -155,9 +157,9 @@ def connect_to(settings: dict[str, str], limit: float, check: Check) -> Connecte
     """Connects to one address. How it is protected is settled before, and judged after."""
     settings = transport.OWN.guarded(settings)
     raw = pq.PGconn.connect_start(
-        make_conninfo(**{name: it for name, it in settings.items() if it}).encode()
+        conninfo.make_conninfo(**{name: it for name, it in settings.items() if it}).encode()
     )
-    set_verbosity(raw, VERBOSE)
+    libpq.set_verbosity(raw, libpq.VERBOSE)
     until = time.monotonic() + limit
     with undone_by(raw.finish):
         while raw.status != pq.ConnStatus.BAD and (polled := raw.connect_poll()) not in DONE:
@@ -165,12 +167,12 @@ def connect_to(settings: dict[str, str], limit: float, check: Check) -> Connecte
             if time.monotonic() > until:
                 raise Unconnected(f"{where(settings)}: no answer within {limit:.0f} seconds")
             reads = polled == pq.PollingStatus.READING
-            ready(raw.socket, reads=reads, writes=not reads)
+            libpq.ready(raw.socket, reads=reads, writes=not reads)
         if raw.status != pq.ConnStatus.OK:
             raise transport.OWN.explained(connection_error(raw, where(settings)))
-        protection = transport.protection_of(raw, is_by_gssapi(raw) or False)
+        protection = transport.protection_of(raw, libpq.is_by_gssapi(raw) or False)
         transport.OWN.judge(protection)
-        set_verbosity(raw, DEFAULT)
+        libpq.set_verbosity(raw, libpq.DEFAULT)
         raw.nonblocking = 1
     return raw, protection
 

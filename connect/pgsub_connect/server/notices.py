@@ -1,11 +1,13 @@
 """Notices and warnings of a server: logged while a minute has room, and counted else."""
 
-import time
+from __future__ import annotations
 
-from psycopg import pq
+import time
 
 from pgsub_feed import log
 from pgsub_feed.texts import said_text
+
+from .library import pq
 
 # How many are logged in a minute, and how many characters of them.
 MOST, ROOM, MINUTE = 60, 20_000, 60.0

@@ -7,7 +7,6 @@ publication, which ends without effect where one is found.
 """
 
 import dataclasses
-import secrets
 from collections.abc import Callable, Mapping, Sequence
 from contextlib import closing
 from functools import partial
@@ -263,6 +262,9 @@ class Maker:
     def content_asked(self, name: str) -> tuple[set[str], set[str]]:
         """What a publication of --table would list, and what of that has no replica identity. It is
         made for that, and undone."""
+        # (a start takes as long as what it imports)
+        import secrets
+
         connection, trial = self.connection, f"{cut(name)}_trial_{secrets.token_hex(4)}"
         connection.run("SAVEPOINT trial")
         try:

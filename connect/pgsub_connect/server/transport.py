@@ -6,6 +6,8 @@ password is sent where that is possible. Once a connection was encrypted, none t
 without a word: not in this process, and by the checkpoint not in a later one.
 """
 
+from __future__ import annotations
+
 import contextlib
 import dataclasses
 import functools
@@ -14,12 +16,11 @@ import os
 import threading
 from collections.abc import Iterable, Iterator
 
-from psycopg import pq
-
 from pgsub_feed import log
 from pgsub_feed.errors import Unfit
 
 from ..errors import ServerError, Unconnected
+from .library import pq
 
 # What a connection goes by.
 SOCKET, PLAIN, TLS, GSSAPI = "socket", "plain", "tls", "gssapi"

@@ -17,7 +17,7 @@ import sys
 import zlib
 from collections.abc import Callable, Collection, Iterable, Iterator, Mapping
 from json.encoder import encode_basestring  # type: ignore[attr-defined]
-from typing import BinaryIO, NamedTuple
+from typing import BinaryIO
 
 from pgsub_feed import log
 from pgsub_feed.errors import FileError
@@ -40,23 +40,11 @@ from .at_rest import unopened
 from .copied_rows import READ, attempted, rows_of
 from .export import Held
 from .file import check_store, choose, opened, read_position, read_relations
+from .row_frames import BaseWanted
 
 # How many bytes of rows wait to be written, and how many each file but the last has at least.
 ROOM, LEAST = 1 << 20, 1 << 26
 NULL, TEXT, BINARY = b"ntb"
-
-
-class Wanted(NamedTuple):
-    """The feed's folder, the store whose tables are remembered, the mode of the files, the LSN as
-    of which the rows are, and what the feed is of. The process is told it as a list of JSON."""
-
-    feed: str
-    store: str
-    mode: int
-    point: int
-    system: str
-    database: str
-    slot: str
 
 
 def row_line(body: bytes) -> bytes:
@@ -84,7 +72,7 @@ def row_line(body: bytes) -> bytes:
 class BaseFile:
     """One of the files. Its head is written once it is complete."""
 
-    def __init__(self, folder: str, number: int, wanted: Wanted) -> None:
+    def __init__(self, folder: str, number: int, wanted: BaseWanted) -> None:
         self.number, self.wanted = number, wanted
         path = os.path.join(folder, file_name(number))
         flags = os.O_WRONLY | os.O_CREAT | os.O_EXCL | os.O_CLOEXEC
@@ -118,7 +106,7 @@ class BaseWriter:
     """Writes the rows of some relations, in the order in which they come."""
 
     def __init__(
-        self, folder: str, wanted: Wanted, relations: Mapping[int, Relation], check: Check
+        self, folder: str, wanted: BaseWanted, relations: Mapping[int, Relation], check: Check
     ) -> None:
         self.folder, self.wanted, self.check = folder, wanted, check
         self.definitions = {oid: table_line(it) + b"\n" for oid, it in relations.items()}
@@ -172,7 +160,7 @@ def placed_folder(feed: str, mode: int) -> Iterator[str]:
 
 
 def write_base(
-    wanted: Wanted, relations: Mapping[int, Relation], rows: Iterable[Held], check: Check
+    wanted: BaseWanted, relations: Mapping[int, Relation], rows: Iterable[Held], check: Check
 ) -> int:
     """Writes the rows, each as often as it is there; returns how many they are."""
     with placed_folder(wanted.feed, wanted.mode) as folder:
@@ -184,7 +172,7 @@ def write_base(
     return writer.rows
 
 
-def written(wanted: Wanted, source: BinaryIO, check: Check) -> int:
+def written(wanted: BaseWanted, source: BinaryIO, check: Check) -> int:
     """Writes the files; the exit status."""
 
     def write() -> int:
@@ -194,7 +182,7 @@ def written(wanted: Wanted, source: BinaryIO, check: Check) -> int:
     return told(wanted, write)
 
 
-def told(wanted: Wanted, write: Callable[[], int]) -> int:
+def told(wanted: BaseWanted, write: Callable[[], int]) -> int:
     """Tells how many rows were written, or why there are none; the exit status."""
 
     def make() -> None:
@@ -205,7 +193,7 @@ def told(wanted: Wanted, write: Callable[[], int]) -> int:
 
 
 def run() -> None:
-    wanted, check = Wanted(*json.loads(sys.argv[1])), check_signals()
+    wanted, check = BaseWanted(*json.loads(sys.argv[1])), check_signals()
     with open(0, "rb", buffering=READ) as source:
         sys.exit(guarded(lambda: written(wanted, source, check)))
 
@@ -230,7 +218,7 @@ def stored_rows(
             raise Malformed
 
 
-def write_stored(wanted: Wanted, check: Check) -> int:
+def write_stored(wanted: BaseWanted, check: Check) -> int:
     """Writes the files; returns how many rows they have."""
     with unopened(wanted.store, wanted.store + ".base", check) as (path, _):
         check_store(path, wanted.store)
@@ -242,11 +230,11 @@ def write_stored(wanted: Wanted, check: Check) -> int:
             return write_base(wanted._replace(point=position), relations, rows, check)
 
 
-def written_from_store(wanted: Wanted, check: Check) -> int:
+def written_from_store(wanted: BaseWanted, check: Check) -> int:
     return told(wanted, lambda: write_stored(wanted, check))
 
 
 def run_from_store() -> None:
     # (it ends with its input, so with the follower)
-    wanted, parent = Wanted(*json.loads(sys.argv[1])), Parent(check_signals())
+    wanted, parent = BaseWanted(*json.loads(sys.argv[1])), Parent(check_signals())
     sys.exit(guarded(lambda: written_from_store(wanted, parent.check)))

@@ -1,19 +1,17 @@
 """A new file of tables from the rows of an initial copy, by a process that gets them while they are
 read: without it the tables would be made from the store once that is complete.
 
-It gets the rows that the program gets, too, in frames of whole lines of COPY's text, each with the
-OID of its table and how many columns that has; and a CopyDone at the end. Without that nothing is
-left of the file.
+It gets the rows that the program gets, too, in the frames of `store.row_frames`. Without their end
+nothing is left of the file.
 """
 
 import contextlib
 import json
 import os
 import sqlite3
-import struct
 import sys
 from collections.abc import Callable, Iterator
-from typing import BinaryIO, NamedTuple
+from typing import BinaryIO
 
 from pgsub_feed import log
 from pgsub_feed.errors import Failure, Passing, Stopped
@@ -27,29 +25,10 @@ from pgsub_feed.tables.values import Malformed
 from ..drift.remembered import Remembered
 from ..server.copied_text import tuples
 from .export import Export, ExportSettings
+from .row_frames import DONE, HEAD, TablesWanted
 
-# The head of a frame: a letter and a length, which counts itself; the OID and how many columns.
-HEAD = struct.Struct(">cIIH")
-DONE = b"c\x00\x00\x00\x04"
 # How much is read at once, in bytes.
 READ = 1 << 20
-
-
-class Wanted(NamedTuple):
-    """The file, and the store that it is of, whose tables are remembered; the feed to follow; how
-    it has numerics; its mode; the LSN of the rows. The process is told it as a list of JSON."""
-
-    into: str
-    store: str
-    feed: str
-    form: str
-    mode: int
-    point: int
-
-
-def rows_frame(oid: int, width: int, lines: list[bytes]) -> bytes:
-    size = HEAD.size - 1 + sum(map(len, lines))
-    return b"".join((HEAD.pack(b"d", size, oid, width), *lines))
 
 
 def rows_of(source: BinaryIO) -> Iterator[tuple[int, bytes, int]]:
@@ -65,7 +44,7 @@ def rows_of(source: BinaryIO) -> Iterator[tuple[int, bytes, int]]:
         raise Stopped
 
 
-def fill(wanted: Wanted, source: BinaryIO, check: Check) -> None:
+def fill(wanted: TablesWanted, source: BinaryIO, check: Check) -> None:
     """Makes the file. Once it is begun, whatever is remembered of tables later makes no difference."""
     check_sqlite()
     remembered = Remembered(wanted.store)
@@ -78,7 +57,7 @@ def fill(wanted: Wanted, source: BinaryIO, check: Check) -> None:
         prepare(db, os.path.abspath(wanted.feed), (), True)
 
 
-def filled(wanted: Wanted, source: BinaryIO, check: Check) -> int:
+def filled(wanted: TablesWanted, source: BinaryIO, check: Check) -> int:
     """Makes the file; the exit status."""
     lacks = f"{wanted.into} can't be made while rows are copied"
     return attempted(lambda: fill(wanted, source, check), lacks)
@@ -98,6 +77,6 @@ def attempted(make: Callable[[], None], lacks: str) -> int:
 
 
 def run() -> None:
-    wanted, check = Wanted(*json.loads(sys.argv[1])), check_signals()
+    wanted, check = TablesWanted(*json.loads(sys.argv[1])), check_signals()
     with open(0, "rb", buffering=READ) as source, collected_rarely():
         sys.exit(guarded(lambda: filled(wanted, source, check)))

@@ -8,7 +8,7 @@ from pgsub_feed.errors import FileError
 from pgsub_feed.files import meant
 from pgsub_feed.interruption import Check
 
-from ..preconditions import Result, error, ok, warning
+from ..judged import Result, error, ok, warning
 from .at_rest import locked_checkpoint
 
 # How often it is looked for the end, in seconds.

@@ -15,7 +15,7 @@ from pgsub_feed.files import remove
 from pgsub_feed.program import PASSING_ERRORS
 from pgsub_feed.texts import counted
 
-from ..preconditions import Result, error, ok
+from ..judged import Result, error, ok
 
 # What follows a store's name in the folder's, and the file in it.
 SUFFIX, FILE = ".spool", "transactions"

@@ -174,12 +174,13 @@ class Filter:
         return self.told()
 
     def start(self, check: Check = never) -> int:
-        """Starts the filter, waits for its first status, and returns the LSN up to which its store
-        confirms.
+        """Starts the filter, unless it is started, waits for its first status, and returns the LSN
+        up to which its store confirms.
 
         What `check` raises meanwhile ends the filter: one that opens its store has nothing to lose.
         """
-        self.launch()
+        if not self.runs:
+            self.launch()
         with undone_by(self.kill):
             while not self.status:
                 check()
@@ -192,6 +193,10 @@ class Filter:
         with open(f"/proc/{self.pid()}/io", encoding="ascii") as file:
             read = int(file.readline().split()[1])
         return read, os.path.getsize(self.words[self.words.index("--store") + 1])
+
+    def is_opening(self) -> bool:
+        """Whether one runs that is still opening its store."""
+        return self.runs and not self.status
 
     def has_opened(self) -> bool:
         """Whether its first status has come."""

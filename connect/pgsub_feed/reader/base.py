@@ -7,7 +7,6 @@ it. The head tells how many rows there are, and a checksum of all that follows i
 
 import contextlib
 import os
-import shutil
 import zlib
 from collections.abc import Collection, Iterator
 from typing import Any, NamedTuple, Protocol
@@ -279,5 +278,8 @@ def remove_base(feed: str) -> None:
 
 def remove_begun(feed: str) -> None:
     """Removes what was begun of first rows, or left of some, by a process that was killed."""
+    # (a start takes as long as what it imports)
+    from shutil import rmtree
+
     with contextlib.suppress(FileNotFoundError, NotADirectoryError):
-        shutil.rmtree(os.path.join(feed, FOLDER + NEW))
+        rmtree(os.path.join(feed, FOLDER + NEW))

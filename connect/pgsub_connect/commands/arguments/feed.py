@@ -7,11 +7,11 @@ from typing import Any, TypeVar
 
 from pgsub_feed.errors import Unfit, UsageError
 from pgsub_feed.options import duration, file, flag, option, size
-from pgsub_feed.sinks.connecting import FORMS, url
+from pgsub_feed.sinks.urls import FORMS, url
 from pgsub_feed.tables.schema import read_numeric
 from pgsub_feed.tables.values import BOTH
 
-from ...drift.remembered import Remembered
+from ...drift.remembered import summary_of
 from ...follow.feed import FeedSettings
 from ...follow.process_beside import SinkSettings, TablesSettings
 from ...follow.retention import Limits
@@ -113,7 +113,7 @@ def settled_feed(options: Settled, store: str) -> Settled:
         raise Unfit(text)
     is_base_wanted, messages = bool(feed), options.messages
     if not options.without_feed and has_begun(store):
-        known = Remembered(store)
+        known = summary_of(store)
         if not feed:
             feed, is_base_wanted = known.feed, known.has_base
         messages = messages or (0 if options.without_messages else known.messages)

@@ -3,6 +3,7 @@ the publication, the slot and the copy that --create makes."""
 
 import argparse
 import dataclasses
+import re
 from collections.abc import Iterable, Sequence
 from typing import TypeVar
 
@@ -11,7 +12,7 @@ from pgsub_feed.errors import Unfit
 from pgsub_feed.options import add_fields, file, flag, option, repeated
 from pgsub_feed.ownership import readable_by, readable_text
 
-from ...drift.remembered import Remembered
+from ...drift.remembered import summary_of
 from ...server import transport
 from ...server.login import parameters
 from ...server.publication_setup import Wanted, check_lengths, inserts_of
@@ -56,6 +57,8 @@ class ServerOptions:
 
 
 Settled = TypeVar("Settled", bound=ServerOptions)
+# A connection string that is right and has no password: psycopg isn't asked, for which a start waits.
+PLAIN = re.compile(r"\s*(?:(?:host|hostaddr|port|dbname|user|service|sslmode)=[^\s'\\]+\s*)*")
 
 
 def settled_server(
@@ -71,7 +74,7 @@ def settled_server(
     check_texts([("--slot", options.slot), *each("--publication", options.publication), *told], dsn)
     check_lengths(options.slot, options.publication, keyless)
     warn_of_password(options, dsn, readable)
-    remembered = Remembered(store).publications() if has_begun(store) else []
+    remembered = summary_of(store).publications if has_begun(store) else []
     names = followed_again(options.publication, keyless, remembered) or remembered or ["pgsub"]
     slot = slot_of(store, options.slot)
     use_mode(options.mode)
@@ -98,7 +101,7 @@ def slot_of(store: str, given: str) -> str:
 
 
 def warn_of_password(options: ServerOptions, dsn: str, readable: str) -> None:
-    if not {"password", "sslpassword"} & parameters(dsn).keys():
+    if PLAIN.fullmatch(dsn) or not {"password", "sslpassword"} & parameters(dsn).keys():
         return
     if not options.dsn_file:
         log.warning(
