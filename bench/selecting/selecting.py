@@ -88,21 +88,10 @@ def reached(servers: Servers, follower: Program) -> int:
     return lsn_of(servers.session.value(query))
 
 
-def under_load(servers: Servers, follower: Program, seconds: int) -> str:
-    """Lets pgbench run, and the follower catch up. Returns a line of the table."""
-    servers.rest()
-    follower.start()
-    behind: list[int] = []
-    load = PgBench(servers, seconds)
-    while load.process.poll() is None:
-        time.sleep(0.2)
-        end = lsn_of(servers.session.value("SELECT pg_current_wal_flush_lsn()"))
-        behind.append(max(end - reached(servers, follower), 0))
-    rate = load.rate()
-    last, began = (
-        servers.last_commit(f"INSERT INTO measured VALUES ({time.time_ns()}, 'a', 'b', 'c')"),
-        time.monotonic(),
-    )
+def wait_for_all(servers: Servers, follower: Program) -> None:
+    """Waits until a follower has all that the server has now."""
+    row = time.time_ns()
+    last = servers.last_commit(f"INSERT INTO measured VALUES ({row}, 'a', 'b', 'c')")
     wait_until(
         lambda: reached(servers, follower) > lsn_of(last),
         f"{follower.slot}: reaching {last}",
@@ -110,6 +99,23 @@ def under_load(servers: Servers, follower: Program, seconds: int) -> str:
         follower.check,
         STEP,
     )
+
+
+def under_load(servers: Servers, follower: Program, seconds: int) -> str:
+    """Lets pgbench run, and the follower catch up. Returns a line of the table."""
+    servers.rest()
+    follower.start()
+    # (what the load of another one has left)
+    wait_for_all(servers, follower)
+    behind: list[int] = []
+    load = PgBench(servers, seconds)
+    while load.process.poll() is None:
+        time.sleep(0.2)
+        end = lsn_of(servers.session.value("SELECT pg_current_wal_flush_lsn()"))
+        behind.append(max(end - reached(servers, follower), 0))
+    rate = load.rate()
+    began = time.monotonic()
+    wait_for_all(servers, follower)
     took = time.monotonic() - began
     return f"| {follower.name} | {rate:,.0f} | {statistics.mean(behind) / 1000:,.0f} | {max(behind) / 1000:,.0f} | {took:.2f} |"
 
