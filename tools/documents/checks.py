@@ -79,7 +79,7 @@ CLAUSES = (
     THEOREM,
     "pgsub_core::follow.followed",
     "pgsub_core::follow.crash",
-    "pgsub_core::follow.missed",
+    "pgsub_core::follow.tally",
     "pgsub_core::follow.fed",
     "pgsub_core::converge.agree",
     "pgsub_core::converge.converges",
@@ -87,6 +87,7 @@ CLAUSES = (
     "pgfollow::follow_live.followed",
     "pgrecovery::crashes_lose_nothing_confirmed.followed",
     "pgrecovery::one_life_holds_one_history.life",
+    "pgrecovery::entries_are_transactions.told",
     "pgruns::follow.ran",
     "pgruns::follow.unopened",
     "pgruns::follow.unfed",
@@ -431,7 +432,7 @@ def check_told(tree: Tree) -> list[str]:
         for it in commands
         if not re.search(rf"pgsub-connect {it}\b|`{it}`", whole)
     ]
-    found = SCHEMES.search(tree.text("connect/pgsub_feed/sinks/connecting.py"))
+    found = SCHEMES.search(tree.text("connect/pgsub_feed/sinks/urls.py"))
     schemes = SCHEME.findall(found[1]) if found else []
     told = tree.text("docs/FEED.md")
     wrong += [f"docs/FEED.md hasn't {it}://" for it in schemes if f"{it}://" not in told]

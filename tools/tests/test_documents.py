@@ -161,7 +161,7 @@ class Told(Made):
         for name in ("__init__", "follow", "wait"):
             self.write(f"connect/pgsub_connect/commands/{name}.py", "")
         schemes = 'SCHEMES = {\n    **dict.fromkeys(("redis", "rediss"), "redis"),\n    "kafka": "kafka",\n}\n'
-        self.write("connect/pgsub_feed/sinks/connecting.py", schemes)
+        self.write("connect/pgsub_feed/sinks/urls.py", schemes)
         self.write("README.md", readme)
         self.write("docs/FEED.md", feed)
         return checks.check_told(checks.Tree(self.top))
