@@ -11,7 +11,7 @@ from .reader import Fault
 from .wire import COPY_DONE, lsn_text
 
 # the most bytes that are read at once
-PIECE = 65536
+PIECE = 1 << 20
 STATUS = struct.Struct(">cIcQQQqB")
 
 

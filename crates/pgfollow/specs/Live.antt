@@ -21,7 +21,7 @@ use Rattle.pgfollow.specs.declared.fault.FollowFault.TheVariants as follow
 
 -- the most bytes that are read at once
 abbrev pub piece_len : ℕ
-piece_len = 65536
+piece_len = 1048576
 
 -- the fault that a call gives, if one
 abbrev pub ended_by : {A : Type 0} → Result A FollowFault → Option FollowFault

@@ -21,8 +21,9 @@ use pgsub_core::{Fault, Loads, Subscriber};
 use std::alloc::{AllocError, Global};
 use std::io::{Read, Write};
 
-/// The most bytes that are read at once.
-const PIECE_LEN: usize = 65536;
+/// The most bytes that are read at once: all that a pipe of Linux may hold. Commits that come
+/// together are settled together, so that a page that several of them change is written once.
+const PIECE_LEN: usize = 1_048_576;
 
 // Room for so many bytes.
 fn room_for(alloc: Global, len: usize) -> Result<Vec<u8>, AllocError>
@@ -251,10 +252,9 @@ fn follow_reads<
     Ok(())
 }
 
-/// Follows a server: reads the frames of sessions as they come, feeds each piece of at most 65536
-/// bytes, and tells the server then what is stored. A session ends with its CopyDone, and what
-/// follows is the next one's, as after a disconnection. It ends with the bytes, or after 2^64 - 1
-/// reads.
+/// Follows a server: reads the frames of sessions as they come, feeds each piece of at most 1 MiB,
+/// and tells the server then what is stored. A session ends with its CopyDone, and what follows is
+/// the next one's, as after a disconnection. It ends with the bytes, or after 2^64 - 1 reads.
 ///
 /// The first status is that of the opened store. After each piece, and at the end of each session,
 /// it writes the replies to keepalives that asked for one, and a status where confirmed has moved

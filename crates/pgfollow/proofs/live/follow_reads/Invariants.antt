@@ -1,10 +1,10 @@
 use Rattle.std.proofs.Common.{◌-◌, ◌≡◌, [], false, length}
-use Rattle.pgfollow.specs.Live.{LiveSteps}
+use Rattle.pgfollow.specs.Live.{LiveSteps, piece_len}
 use Rattle.pgfollow.proofs.live.follow_reads.Given as goal
 
 abbrev pub invariant-loop-link : goal.invariant-loop-link
 invariant-loop-link g l =
-    (l.link.read_failed ≡ false) × (l.link.write_failed ≡ false) × (length l.room ≡ 65536) × (l.subscriber.framing.closed ≡ false)
+    (l.link.read_failed ≡ false) × (l.link.write_failed ≡ false) × (length l.room ≡ piece_len) × (l.subscriber.framing.closed ≡ false)
     × (g.C.ReplicaStore.is_honest l.subscriber.applied.store → g.C.ReplicaStore.is_honest l.fn.subscriber.applied.store)
     × (g.C.ReplicaStore.is_honest l.subscriber.applied.store → g.C.ReplicaStore.serves l.fn.subscriber.applied.store
     → g.C.ReplicaStore.serves l.subscriber.applied.store)
