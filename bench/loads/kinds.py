@@ -160,20 +160,21 @@ def many_tables(name: str, changes: int) -> Kind:
 
 
 UPDATE = f"UPDATE measured SET a = 'changed ' || id WHERE {CHOSEN}"
+# so many that a turn takes some seconds, of which the start is a small part
 KINDS = [
-    Load("inserts, rising keys, 100 a transaction", 200_000, inserts(100)),
+    Load("inserts, rising keys, 100 a transaction", 1_000_000, inserts(100)),
     Load("inserts, uuid keys, 100 a transaction", 200_000, uuid_inserts),
-    Load("inserts, 1 a transaction", 50_000, inserts(1)),
-    Load("inserts of 50 columns, 100 a transaction", 50_000, wide_inserts),
-    Load("inserts of 8 kB texts, 10 a transaction", 20_000, large_inserts),
-    Load("inserts into a table without a key", 100_000, keyless_inserts),
-    Load("deletes in order", 100_000, changed("DELETE FROM measured WHERE id BETWEEN at AND till")),
+    Load("inserts, 1 a transaction", 200_000, inserts(1)),
+    Load("inserts of 50 columns, 100 a transaction", 200_000, wide_inserts),
+    Load("inserts of 8 kB texts, 10 a transaction", 40_000, large_inserts),
+    Load("inserts into a table without a key", 500_000, keyless_inserts),
+    Load("deletes in order", 400_000, changed("DELETE FROM measured WHERE id BETWEEN at AND till")),
     Load("deletes at random", 100_000, changed(f"DELETE FROM measured WHERE {CHOSEN}")),
     # (the subscription reads the whole table for each)
     Load("deletes from a table without a key", 5_000, keyless_deletes, 5_000),
     Load("updates at random", 100_000, changed(UPDATE)),
     Load("updates at random, REPLICA IDENTITY FULL", 100_000, changed(UPDATE, full())),
     Load("updates beside 8 kB that aren't sent", 20_000, beside_unsent),
-    Load("inserts into 1,000 tables, 1 a transaction", 20_000, many_tables),
-    Load("inserts, one transaction", 1_000_000, one_transaction),
+    Load("inserts into 1,000 tables, 1 a transaction", 100_000, many_tables),
+    Load("inserts, one transaction", 5_000_000, one_transaction),
 ]
