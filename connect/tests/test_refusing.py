@@ -190,7 +190,9 @@ class InTheWay(Case):
         # (as many as the server's statistics have, of which not all had come)
         self.assertGreater(int(found[1]), 2 * 2000 * 100)
         self.assertIn("(spool 4 NoRoom)", why)
-        self.assertEqual(run.progress.findings.adding["public.t (16385)"], why)
+        adding = run.progress.findings.adding
+        # (it is told at the next look at the progress)
+        self.assertTrue(run.until(lambda: adding["public.t (16385)"] == why), adding)
         self.change()
         self.assertTrue(run.until(lambda: self.is_stored(run)), (self.said, run.raised))
         run.end()
