@@ -2,6 +2,7 @@ mod Reading
 mod Storing
 mod Keeping
 mod Spooling
+mod Counting
 mod Failing
 mod WorkedRows
 mod Parting

@@ -4,6 +4,15 @@ use Rattle.pgspool.specs.declared.fault.SpoolFault.TheVariants as spool
 use Rattle.pgspill.specs.declared.fault.SpillFault.{SpillFault}
 use Rattle.pgspill.specs.declared.fault.SpillFault.TheVariants as spill
 
+-- where a transaction is opened
+abbrev pub IsOfOpening : SpoolFault → Type 0
+IsOfOpening spool.SpoolFull = ⊥
+IsOfOpening spool.Memory = Unit {0}
+IsOfOpening spool.NotWritten = ⊥
+IsOfOpening spool.NoRoom = ⊥
+IsOfOpening spool.NotRead = ⊥
+IsOfOpening spool.TooManyOpen = Unit {0}
+
 -- where bytes go to a file
 abbrev pub IsOfWriting : SpoolFault → Type 0
 IsOfWriting spool.SpoolFull = ⊥

@@ -7,7 +7,7 @@ ghost use Rattle.std.specs.Prelude.{if◌then◌else◌, ℕ, None, slice_range}
 ghost use Rattle.std.specs.FinMap as map;
 ghost use Rattle.pglogical.specs.Spelling.{IsSpellable};
 ghost use Rattle.pgspool.specs.Labels.{LabelledItem, cut as cut_of, held_of, cost, all_costs};
-ghost use Rattle.pgfilespools.specs.Faults.{IsOfWriting, IsOfReading, IsOfPushing};
+ghost use Rattle.pgfilespools.specs.Faults.{IsOfOpening, IsOfWriting, IsOfReading, IsOfPushing};
 ghost use Rattle.pgfilespools.specs.Spooled.{IsLoaded, IsReady, IsPart, HasPart};
 
 use crate::file_items::FileItems;
@@ -21,10 +21,14 @@ use sqlite_disk::Disk;
 use std::alloc::Global;
 use std::marker::Model;
 
+/// How many transactions are open at most. In practice a server's `max_connections` is far lower.
+pub const MOST_OPEN: usize = 65_536;
+
 /// The buffered items of open transactions: in memory up to a number of bytes, the others in blocks
 /// of one file, which all transactions share.
 ///
-/// Each transaction costs some two hundred bytes of memory beside, and each subtransaction forty.
+/// Each transaction costs some two hundred bytes of memory beside, also one without items, which
+/// `max_bytes` doesn't count: so at most `MOST_OPEN` are open. Each subtransaction costs forty.
 #[derive(Drop)]
 pub struct FileSpools<D: Disk + Drop> {
     alloc: Global,
@@ -98,19 +102,31 @@ impl<D: Disk + Drop> FileSpools<D> {
         self.transactions.contains_key(&xid)
     }
 
+    // Whether one more transaction may be open.
+    fn may_open(&self) -> bool
+        ensures { (result ≡ true) ↔ (map.len self.now.held < MOST_OPEN) }
+    {
+        self.transactions.len() < MOST_OPEN
+    }
+
     /// Opens a transaction, without items.
     ///
     /// # Errors
     ///
-    /// `Memory`.
+    /// `TooManyOpen` exactly where `MOST_OPEN` are open, and `Memory`. What is held stays.
     pub fn open(&mut self, xid: u32) -> Result<(), SpoolFault>
         requires { map.contains_key self.old.held xid ≡ false }
         ensures ok { OnOk result (self.new.held ≡ map.insert self.old.held xid []) }
-        ensures fault { IfErr result (λ fault. fault ≡ SpoolFault.Memory) }
+        ensures many { (result ≡ Err SpoolFault.TooManyOpen) ↔
+            (MOST_OPEN ≤ map.len self.old.held) }
+        ensures fault { IfErr result IsOfOpening }
         ensures err { OnErr result (self.new.held ≡ self.old.held) }
         ensures limit { self.new.most ≡ self.old.most }
         ensures honest { self.new.is_honest ≡ self.old.is_honest }
     {
+        if !self.may_open() {
+            return Err(SpoolFault::TooManyOpen);
+        }
         let items = FileItems::new(self.alloc, xid);
         self.transactions.insert(xid, items)?;
         Ok(())

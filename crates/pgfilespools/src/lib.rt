@@ -31,4 +31,4 @@ mod place;
 mod spools;
 mod stored;
 
-pub use file_spools::FileSpools;
+pub use file_spools::{FileSpools, MOST_OPEN};

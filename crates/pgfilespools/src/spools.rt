@@ -28,7 +28,7 @@ impl<D: Disk + Drop> Spools for FileSpools<D> {
         self.is_open(xid)
     }
 
-    #[tactic(auto, using(crate::proofs::Failing::of_opening))]
+    #[tactic(auto, using(crate::proofs::Failing::of_opening, crate::proofs::Failing::never_full))]
     fn open(&mut self, xid: u32) -> Result<(), SpoolFault> {
         self.open(xid)
     }

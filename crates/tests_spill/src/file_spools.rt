@@ -3,7 +3,7 @@
 
 ghost use Rattle.std.specs.Prelude.{IsTrue};
 
-use pgfilespools::FileSpools;
+use pgfilespools::{FileSpools, MOST_OPEN};
 use pglogical::{ItemRef, MessageRef, decode_ref, encode_item};
 use pgspool::{ByteSpools, SpoolFault, Spools};
 use sqlite_disk::{Disk, Fuse, Memory, Rot};
@@ -258,4 +258,47 @@ fn refuse_the_second<D: Disk + Drop>(rt: &(impl Abort + AllocGlobal), disk: D)
 #[test]
 fn an_item_over_the_limit_is_refused(rt: HostRuntime) {
     refuse_the_second(&rt, Memory::new(rt.alloc()));
+}
+
+/// Opens a transaction that isn't open.
+fn open<P: Spools>(rt: &impl Abort, spools: &mut P, xid: u32) -> Result<(), SpoolFault> {
+    assert!(rt; !spools.is_open(xid));
+    spools.open(xid)
+}
+
+/// As many transactions as may be open over a file.
+fn open_most<P: Spools>(rt: &impl Abort, spools: &mut P) {
+    for xid in 0..MOST_OPEN as u32 {
+        open(rt, spools, xid).expect(rt, "open");
+    }
+}
+
+/// One more isn't opened, until one of them is forgotten.
+fn refuse_one_more<D: Disk + Drop>(rt: &(impl Abort + AllocGlobal), disk: D)
+    requires { IsTrue (D.is_usable disk) }
+{
+    let mut spools = FileSpools::new(rt.alloc(), disk, 1 << 40, IN_MEMORY);
+    open_most(rt, &mut spools);
+    for _again in 0..2 {
+        assert!(rt; open(rt, &mut spools, 70_000) == Err(SpoolFault::TooManyOpen));
+        assert!(rt; !spools.is_open(70_000));
+        assert!(rt; spools.is_open(7));
+    }
+    spools.drop_xid(7);
+    open(rt, &mut spools, 70_000).expect(rt, "open");
+    assert!(rt; open(rt, &mut spools, 7) == Err(SpoolFault::TooManyOpen));
+    spools.clear();
+    open_most(rt, &mut spools);
+}
+
+#[test]
+fn too_many_transactions_are_refused(rt: HostRuntime) {
+    refuse_one_more(&rt, Memory::new(rt.alloc()));
+}
+
+#[test]
+fn more_transactions_are_open_in_memory(rt: HostRuntime) {
+    let mut spools = ByteSpools::new(rt.alloc(), 1 << 40);
+    open_most(&rt, &mut spools);
+    open(&rt, &mut spools, 70_000).expect(&rt, "open");
 }
