@@ -2299,9 +2299,16 @@ BUGS = (
     Bug(
         "whole transactions are asked for where a file would do",
         "pgsub_connect/follow/filter_life.py",
-        "(self.spill() or self.form.stop_streaming(TOO_MUCH))",
-        "(self.form.stop_streaming(TOO_MUCH) or self.spill())",
+        "(self.spill() or self.form.stop_streaming(why))",
+        "(self.form.stop_streaming(why) or self.spill())",
         ("test_spool_faults",),
+    ),
+    Bug(
+        "a larger --max-buffered is asked for where too many transactions are open",
+        "pgsub_connect/stream/memory_limit.py",
+        "if ended.said == TOO_MANY_OPEN:",
+        "if not ended.said:",
+        ("test_sizes",),
     ),
     Bug(
         "a small control group keeps as much of open transactions in memory as a large one",

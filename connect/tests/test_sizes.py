@@ -5,7 +5,13 @@ from __future__ import annotations
 import unittest
 
 from pgsub_connect.store.spool_folder import SpoolFolder
-from pgsub_connect.stream.filter_end import FRAME_TOO_LARGE, MEMORY, SPOOL_FULL, FilterEnded
+from pgsub_connect.stream.filter_end import (
+    FRAME_TOO_LARGE,
+    MEMORY,
+    SPOOL_FULL,
+    TOO_MANY_OPEN,
+    FilterEnded,
+)
 from pgsub_connect.stream.memory_limit import (
     SMALL,
     LONGEST_FRAME,
@@ -80,6 +86,13 @@ class Texts(unittest.TestCase):
                 self.assertIn(
                     part, limit_text(FilterEnded(SPOOL_FULL, ""), self.LIMITS, transaction, 0)
                 )
+
+    def test_too_many_open(self) -> None:
+        """No larger limit is asked for, since none helps."""
+        for limits in (self.LIMITS, ANY):
+            text = limit_text(FilterEnded(SPOOL_FULL, TOO_MANY_OPEN), limits, (7, 1200), 600)
+            self.assertIn("more than 65536 transactions were open at once", text)
+            self.assertNotIn("--max-buffered", text)
 
     def test_frame(self) -> None:
         for longest, wanted in (
@@ -197,6 +210,21 @@ class Follows(Case):
         self.assertIn(f"error: {text}", lines[0])
         # (the last error of the status file)
         self.assertIn(f"SpoolFull: {text}", raised.exception.with_cure())
+
+    def test_too_many_open(self) -> None:
+        """Whole transactions are asked for, of which one is open at a time."""
+        self.take(Source([begin(0x100, 7), *[insert(1)] * 10]))
+        self.limit(BufferLimits(100))
+        many = "more than 65536 transactions were open at once"
+        self.assertEqual(
+            self.end(SPOOL_FULL, TOO_MANY_OPEN),
+            [f"warning: {many}: they come whole from now on"],
+        )
+        with logged() as lines, self.assertRaises(FilterEnded) as raised:
+            self.follower.life.note_end(FilterEnded(SPOOL_FULL, TOO_MANY_OPEN))
+        self.assertIn(f"error: {many}, and no option allows that", lines[0])
+        self.assertIn(f"TooManyOpen: {many}", raised.exception.with_cure())
+        self.assertNotIn("--max-buffered", raised.exception.with_cure())
 
     def test_frame(self) -> None:
         long = insert(1) + bytes(1 << 17)

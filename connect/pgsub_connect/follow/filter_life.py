@@ -13,8 +13,15 @@ from pgsub_feed.texts import counted
 from ..drift.findings import UNWATCHED
 from ..errors import FilterFault
 from ..stream.awake import Awake, Numbers, Served
-from ..stream.filter_end import BREACH, MISSED, SPOOL_FULL, UNOPENED, FilterEnded
-from ..stream.memory_limit import BufferLimits, Kills, limit_text
+from ..stream.filter_end import (
+    BREACH,
+    MISSED,
+    SPOOL_FULL,
+    TOO_MANY_OPEN,
+    UNOPENED,
+    FilterEnded,
+)
+from ..stream.memory_limit import MANY, BufferLimits, Kills, limit_text
 from ..stream.room import is_full
 from ..stream.statuses import Confirming
 from ..stream.watch_lines import Told, is_unusable
@@ -175,9 +182,8 @@ class FilterLife:
         """Notes why the filter ended. Raises where the same would come of another try."""
         if self.spool.is_again(ended):
             self.form.stop_streaming(TOO_MUCH)
-        if not (
-            ended.status == SPOOL_FULL and (self.spill() or self.form.stop_streaming(TOO_MUCH))
-        ):
+        why = MANY if ended.said == TOO_MANY_OPEN else TOO_MUCH
+        if not (ended.status == SPOOL_FULL and (self.spill() or self.form.stop_streaming(why))):
             largest = self.noting.largest()
             ended.note_cure(self.cure_of(ended, largest))
             if ended.cure:

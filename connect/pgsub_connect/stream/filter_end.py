@@ -29,6 +29,8 @@ MISSING = re.compile(
 # written or made, its disk is full, or it gives back nothing, or other bytes.
 OF_SPOOL = "pgsub: spool 3 NotWritten", "pgsub: spool 4 NoRoom", "pgsub: spool 5 NotRead"
 NOT_WRITTEN, NO_ROOM, NOT_READ = OF_SPOOL
+# What it says where as many transactions are open as their file takes, with the status of SpoolFull.
+TOO_MANY_OPEN = "pgsub: spool 6 TooManyOpen"
 # What it says, before its last line, of a transaction whose messages can't be told.
 TOO_LONG, STREAMED = "pgsub: feed 4 MessagesTooLong", "pgsub: feed 5 StreamedMessage"
 OF_MESSAGES = (TOO_LONG, STREAMED)

@@ -6,7 +6,7 @@ import dataclasses
 import os
 
 from .awake import GROUPS, groups
-from .filter_end import FRAME_TOO_LARGE, MEMORY, REJECTED, SPOOL_FULL, FilterEnded
+from .filter_end import FRAME_TOO_LARGE, MEMORY, REJECTED, SPOOL_FULL, TOO_MANY_OPEN, FilterEnded
 
 # The longest frame that PostgreSQL can send, with its length.
 LONGEST_FRAME = 2147483643
@@ -52,6 +52,9 @@ def default_in_memory() -> int:
     return IN_MEMORY if known is None else max(1, min(IN_MEMORY, known // PART))
 
 
+# How many transactions are open at most where they go on in a file: no option allows more.
+MOST_OPEN = 65536
+MANY = f"more than {MOST_OPEN} transactions were open at once"
 # How the filter's line ends on a row of a load that is too long.
 LINE_TOO_LONG = ": 6 TooLong"
 # Below so many bytes no transaction is why a filter is killed, or runs out of memory.
@@ -98,6 +101,8 @@ def limit_text(
     `transaction` is the xid of the largest one that isn't stored, and how many bytes of it were
     passed on, and `longest` the length of the longest message, or of the longest row of a load.
     """
+    if ended.said == TOO_MANY_OPEN:
+        return f"{MANY}, and no option allows that: let some of them end, then start it again"
     if ended.status == SPOOL_FULL and limits.max_buffered is not None:
         return full_text(limits.max_buffered, *transaction)
     if ended.status == FRAME_TOO_LARGE:
