@@ -140,17 +140,24 @@ impl<D: Disk + Drop> FileSpools<D> {
         room >= OVERHEAD && room - OVERHEAD >= spelled_len(item)
     }
 
-    // The transaction that has most bytes in memory.
-    fn longest(&self) -> Option<u32> {
-        let mut longest = None;
-        let mut most = 0;
-        for (xid, items) in self.transactions.iter() {
-            if items.in_memory() > most {
-                most = items.in_memory();
-                longest = Some(*xid);
-            }
+    // How many transactions are open.
+    fn open_ones(&self) -> usize {
+        self.transactions.len()
+    }
+
+    // Half of the bytes that a transaction has in memory on the average, and one at least.
+    fn half_of_average(&self) -> u64 {
+        let average = self.in_memory / self.transactions.len().max(1) as u64;
+        (average / 2).max(1)
+    }
+
+    // The transaction at an index, where it has at least so many bytes in memory.
+    fn long_at(&self, index: usize, least: u64) -> Option<u32> {
+        let (xid, items) = self.transactions.get_index(index)?;
+        if (items.in_memory() as u64) < least {
+            return None;
         }
-        longest
+        Some(*xid)
     }
 
     // Writes what a transaction has in memory to the file.
@@ -170,7 +177,26 @@ impl<D: Disk + Drop> FileSpools<D> {
         written
     }
 
-    // Writes the longest transaction's bytes to the file, where so many more would be too many for
+    // Writes the bytes of each transaction that has half of the average in memory, or more, to the
+    // file. The others have less than half of all, so no transaction is looked at again before as
+    // many bytes came.
+    fn spill_long(&mut self) -> Result<(), SpoolFault>
+        ensures held { self.new.held ≡ self.old.held }
+        ensures limit { self.new.most ≡ self.old.most }
+        ensures honest { self.new.is_honest ≡ self.old.is_honest }
+        ensures part { self.new.part ≡ self.old.part }
+        ensures fault { IfErr result IsOfWriting }
+    {
+        let least = self.half_of_average();
+        for index in 0..self.open_ones() {
+            if let Some(xid) = self.long_at(index, least) {
+                self.spill(xid)?;
+            }
+        }
+        Ok(())
+    }
+
+    // Writes the bytes of long transactions to the file, where so many more would be too many for
     // memory.
     fn make_room(&mut self, bytes: u64) -> Result<(), SpoolFault>
         ensures held { self.new.held ≡ self.old.held }
@@ -182,10 +208,7 @@ impl<D: Disk + Drop> FileSpools<D> {
         if self.in_memory.saturating_add(bytes) <= self.max_in_memory {
             return Ok(());
         }
-        match self.longest() {
-            Some(xid) => self.spill(xid),
-            None => Ok(()),
-        }
+        self.spill_long()
     }
 
     // Holds an item after those of its transaction, in memory.
@@ -223,8 +246,8 @@ impl<D: Disk + Drop> FileSpools<D> {
         self.part = None;
     }
 
-    /// Holds an item after those of its transaction. Where memory is full, the transaction that has
-    /// most bytes there goes on in the file.
+    /// Holds an item after those of its transaction. Where memory is full, the transactions that
+    /// have most bytes there go on in the file.
     ///
     /// # Errors
     ///

@@ -260,6 +260,45 @@ fn an_item_over_the_limit_is_refused(rt: HostRuntime) {
     refuse_the_second(&rt, Memory::new(rt.alloc()));
 }
 
+/// Pushes an Insert of one cell of so many bytes, which costs 21 more, to a transaction, which is
+/// opened first unless it is open.
+fn push_one<D: Disk + Drop>(
+    rt: &(impl Abort + AllocGlobal),
+    spools: &mut FileSpools<D>,
+    xid: u32,
+    number: u32,
+) {
+    let body = insert(rt, number);
+    let item = item_over(rt, body.as_slice());
+    assert!(rt; item.spellable());
+    if !spools.is_open(xid) {
+        spools.open(xid).expect(rt, "open");
+    }
+    assert!(rt; spools.is_open(xid));
+    spools.push(xid, xid, &item).expect(rt, "push");
+}
+
+/// Once memory is full, all but short ones leave it.
+fn leave_together<D: Disk + Drop>(rt: &(impl Abort + AllocGlobal), disk: D)
+    requires { IsTrue (D.is_usable disk) }
+{
+    let mut spools = FileSpools::new(rt.alloc(), disk, 1 << 40, IN_MEMORY);
+    push_one(rt, &mut spools, 100, 10);
+    for xid in 0..73u32 {
+        push_one(rt, &mut spools, xid, 87);
+    }
+    assert!(rt; spools.in_memory() == 31 + 73 * 108);
+    assert!(rt; spools.blocks() == 0);
+    push_one(rt, &mut spools, 5, 87);
+    assert!(rt; spools.in_memory() == 31 + 108);
+    assert!(rt; spools.blocks() == 73);
+}
+
+#[test]
+fn short_ones_stay_in_memory(rt: HostRuntime) {
+    leave_together(&rt, Memory::new(rt.alloc()));
+}
+
 /// Opens a transaction that isn't open.
 fn open<P: Spools>(rt: &impl Abort, spools: &mut P, xid: u32) -> Result<(), SpoolFault> {
     assert!(rt; !spools.is_open(xid));
