@@ -12,8 +12,8 @@ use std::io::ErrorKind;
 /// these are 20 MB.
 pub const CACHE_PAGES: usize = 20_000;
 
-/// How long the log grows, in pages, before it is copied into the file: 40 MB of a new store. A page
-/// that is changed often goes there once.
+/// How long the log grows, in pages, before it is copied into the file: 40 MB of a new store. A
+/// page that is changed often goes there once.
 const CHECKPOINT_FRAMES: usize = 40_000;
 
 /// As many pages that were read stay in memory, and as many that were written before they go to the
