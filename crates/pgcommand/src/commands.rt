@@ -26,7 +26,8 @@ const FOLLOW_STATUSES: &str = "Exit statuses:
    2  usage error
    3  a file is no store, or not one of noted commits, the folder no feed of the store, or a
       name for a feed is too long
-  10  the buffered items of open transactions would cost more than --max-buffered
+  10  the buffered items of open transactions would cost more than --max-buffered, or more
+      than 65536 are open and go on in a file
   11  a frame is longer than --max-frame
   12  the store can't be opened, as while another process has it open
   13  the store, the feed or the spool failed, while it was open or as it was closed
