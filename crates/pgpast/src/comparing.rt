@@ -24,7 +24,7 @@ use std::io;
 use std::io::{ErrorKind, Read};
 
 /// The most bytes that are read at once.
-const ROOM_LEN: usize = 65536;
+const ROOM_LEN: usize = 1_048_576;
 
 /// Hears what is found of commits.
 pub trait RepeatListener {
