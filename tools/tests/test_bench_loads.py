@@ -87,8 +87,8 @@ class Sizes(unittest.TestCase):
         keyless = by_name["deletes from a table without a key"]
         whole = by_name["inserts, one transaction"]
         for load, asked, changes in (
-            (whole, None, 1_000_000),
-            (whole, 5_000_000, 5_000_000),
+            (whole, None, 5_000_000),
+            (whole, 1_000_000, 1_000_000),
             (keyless, None, 5_000),
             (keyless, 5_000_000, 5_000),
             (keyless, 7, 7),
