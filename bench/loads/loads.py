@@ -75,7 +75,7 @@ def main() -> None:
         "--rows",
         type=int,
         metavar="N",
-        help="how many changes each load has (default: 5,000 to 1,000,000, by the load)",
+        help="how many changes each load has (default: 5,000 to 5,000,000, by the load)",
     )
     add("--turns", type=int, default=5, metavar="N", help="how often each takes it (default: 5)")
     add("--only", default="", metavar="WORD", help="only loads whose name has this word")

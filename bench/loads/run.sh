@@ -7,7 +7,7 @@
 #   --root PATH     the root folder in which the servers run by chroot (default: none)
 #   --proto N       the version of the protocol (default: the newest that the server has)
 #   --turns N       how often each takes it (default: 5)
-#   --rows N        how many changes each load has (default: 5,000 to 1,000,000, by the load)
+#   --rows N        how many changes each load has (default: 5,000 to 5,000,000, by the load)
 #   --only WORD     only loads whose name has this word
 #
 # Inserts with rising and random keys, of wide rows and large texts, deletes and updates, tables without a key, many tables, one large
