@@ -2566,6 +2566,13 @@ BUGS = (
         ("test_taking",),
     ),
     Bug(
+        "a socket is waited for that libpq has closed",
+        "pgsub_connect/server/connection.py",
+        "select.select([self.open_socket()], [], [], left)",
+        "select.select([self.number], [], [], left)",
+        ("test_postgres",),
+    ),
+    Bug(
         "a lot is as long as one read",
         "pgsub_connect/server/connection.py",
         "while last == 0 and before - left >= READ",

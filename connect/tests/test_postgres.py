@@ -346,6 +346,27 @@ class Copies(Case):
             connection.consume()
         self.assertIsNone(payload)
 
+    def test_the_end_of_one_whose_server_is_gone(self) -> None:
+        """libpq closes the socket then, where it tells the server of the end: its number may be
+        another file's by the time that it is waited for."""
+        peers, copy = list[socket.socket](), self.server.copy
+
+        def copied(peer: socket.socket) -> None:
+            peers.append(peer)
+            copy(peer)
+
+        with mock.patch.object(self.server, "copy", copied):
+            connection = self.connect()
+            connection.run("START_REPLICATION", COPY_BOTH, LATE)
+            peers[0].shutdown(socket.SHUT_RDWR)
+            until = time.monotonic() + LATE
+            while time.monotonic() < until and not connection.broken:
+                connection.end_copy()
+                connection.drain(0.01)
+        self.assertIsNotNone(connection.broken)
+        with self.assertRaises(ServerError):
+            connection.wait()
+
     def test_lots(self) -> None:
         """By both ways to take them: up to the room, to the first long one, what is there, and then
         the end."""

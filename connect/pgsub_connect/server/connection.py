@@ -99,7 +99,7 @@ class Connection:
                 self.check()
                 if time.monotonic() > until:
                     raise ServerError("the server didn't answer in time")
-                has_come = libpq.ready(self.number, reads=True, writes=self.unsent)
+                has_come = libpq.ready(self.open_socket(), reads=True, writes=self.unsent)
                 if self.unsent:
                     self.flush()
             except BaseException:
@@ -224,6 +224,14 @@ class Connection:
     def socket(self) -> int:
         return self.number
 
+    def open_socket(self) -> int:
+        """Raises where libpq has closed it: its number may be another file's by then."""
+        try:
+            return self.raw.socket
+        except errors.OperationalError as error:
+            self.broken = self.broken or ServerError(shortened(str(error)))
+            raise self.broken from None
+
     def pid(self) -> int:
         """The process at the server."""
         return self.raw.backend_pid
@@ -342,7 +350,7 @@ class Connection:
             self.raw.put_copy_end()
             self.flush()
             if self.unsent:
-                select.select([], [self.number], [], 1.0)
+                select.select([], [self.open_socket()], [], 1.0)
                 self.flush()
 
     def drain(self, seconds: float) -> None:
@@ -350,7 +358,7 @@ class Connection:
         until = time.monotonic() + seconds
         with contextlib.suppress(errors.OperationalError, ServerError):
             while not self.broken and (left := until - time.monotonic()) > 0:
-                if select.select([self.number], [], [], left)[0]:
+                if select.select([self.open_socket()], [], [], left)[0]:
                     self.consume()
                 while (found := self.payloads(DRAINED, DRAINED))[0]:
                     pass
