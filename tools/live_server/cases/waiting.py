@@ -178,6 +178,8 @@ def beside_a_long_one(place: Place) -> None:
 def stopped_verifier(place: Place) -> None:
     """Where whoever compares is stopped, commits go on."""
     stock(place)
+    # (as many as take it a while)
+    place.run("INSERT INTO other SELECT it, 'other' FROM generate_series(2001, 300000) it")
     place.follow("--create")
     with waited_for(place, 2) as child:
         verifier = place.started(verify_words(place, "--hold", "20"))
