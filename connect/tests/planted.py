@@ -2568,7 +2568,7 @@ BUGS = (
     Bug(
         "a socket is waited for that libpq has closed",
         "pgsub_connect/server/connection.py",
-        "select.select([self.open_socket()], [], [], left)",
+        "select.select([self.socket()], [], [], left)",
         "select.select([self.number], [], [], left)",
         ("test_postgres",),
     ),

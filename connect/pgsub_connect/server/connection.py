@@ -72,7 +72,6 @@ class Connection:
         self.left_out: list[str] = []
         self.notices = Notices(self.left_out)
         self.raw.notice_handler = None if quiet else self.notices.hear
-        self.number = self.raw.socket
         self.wire = libpq.wire_of(self.raw)
 
     def set_check(self, check: Check) -> None:
@@ -99,7 +98,7 @@ class Connection:
                 self.check()
                 if time.monotonic() > until:
                     raise ServerError("the server didn't answer in time")
-                has_come = libpq.ready(self.open_socket(), reads=True, writes=self.unsent)
+                has_come = libpq.ready(self.socket(), reads=True, writes=self.unsent)
                 if self.unsent:
                     self.flush()
             except BaseException:
@@ -222,9 +221,6 @@ class Connection:
         return self.raw.server_version
 
     def socket(self) -> int:
-        return self.number
-
-    def open_socket(self) -> int:
         """Raises where libpq has closed it: its number may be another file's by then."""
         try:
             return self.raw.socket
@@ -350,7 +346,7 @@ class Connection:
             self.raw.put_copy_end()
             self.flush()
             if self.unsent:
-                select.select([], [self.open_socket()], [], 1.0)
+                select.select([], [self.socket()], [], 1.0)
                 self.flush()
 
     def drain(self, seconds: float) -> None:
@@ -358,7 +354,7 @@ class Connection:
         until = time.monotonic() + seconds
         with contextlib.suppress(errors.OperationalError, ServerError):
             while not self.broken and (left := until - time.monotonic()) > 0:
-                if select.select([self.open_socket()], [], [], left)[0]:
+                if select.select([self.socket()], [], [], left)[0]:
                     self.consume()
                 while (found := self.payloads(DRAINED, DRAINED))[0]:
                     pass
