@@ -13,7 +13,7 @@ use Rattle.pgspool.proofs.IndexLemmas.{left_of_cut}
 use Rattle.pglogical.specs.declared.message.Item.{Item}
 use Rattle.pglogical.specs.Spelling.{IsSpellable}
 use Rattle.pgfilespools.specs.declared.file_items.FileItems.{FileItems}
-use Rattle.pgfilespools.specs.Stored.{stored_item, IsStorable}
+use Rattle.pgfilespools.specs.Stored.{stored_item, IsStorable, AreItems}
 use Rattle.pgfilespools.specs.AreStored.{AreStored}
 use Rattle.pgfilespools.specs.Parts.{AreParts}
 use Rattle.pgfilespools.specs.Kept.{AreKept, items_kept}
@@ -41,6 +41,15 @@ module _ (key : ℕ) (file : List ℕ) (owners : List (Option Owner)) (old : Fil
 
   pub count_is : old.count ≡ length held
   count_is = sym (length-items_in old.count (strand_bytes file old.strand))
+
+  -- the bytes are those of its items
+  pub are_items : (bytes : List ℕ) → bytes ≡ strand_bytes file old.strand → AreItems old.count bytes
+  are_items bytes same = record {
+    held = held;
+    all = sym count_is;
+    written = same ∙ is.stored.written;
+    storable = is.stored.storable;
+  }
 
   -- the same bytes, with the same notes beside them
   pub same_items : (key' : ℕ) (file' : List ℕ) (owners' : List (Option Owner)) (new : FileItems) → IsStrand key' file' owners' new.strand

@@ -6,3 +6,4 @@ mod Counting
 mod Failing
 mod WorkedRows
 mod Parting
+mod Spanning

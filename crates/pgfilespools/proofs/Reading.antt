@@ -15,13 +15,13 @@ use Rattle.pgspool.specs.declared.fault.SpoolFault.{SpoolFault}
 use Rattle.pgspool.specs.Labels.{LabelledItem, cost, costs}
 use Rattle.pgspool.specs.Marks.{item_in, item_read}
 use Rattle.pgfilespools.specs.Stored.{stored_item, stored, number_at, size_at, spelled_at, first_at}
-use Rattle.pgfilespools.specs.Stored.{others_at}
+use Rattle.pgfilespools.specs.Stored.{others_at, spelling_at}
 use Rattle.pgfilespools.specs.Stored.{items_in, IsStorable}
 
 abbrev pub spelling : LabelledItem → List ℕ
 spelling l = item_spelling None l.1
 
-stored-cons : (l : LabelledItem) (ls : List LabelledItem) → stored (l ∷ ls) ≡ stored_item l ++ stored ls
+pub stored-cons : (l : LabelledItem) (ls : List LabelledItem) → stored (l ∷ ls) ≡ stored_item l ++ stored ls
 stored-cons l ls = flat_map-cons stored_item l ls
 
 pub stored-push : (held : List LabelledItem) (l : LabelledItem) → stored (held ++ l ∷ []) ≡ stored held ++ stored_item l
@@ -79,12 +79,13 @@ module _ (l : LabelledItem) (more : List ℕ) (is : IsStorable l) where
   pub others_are : others_at bytes ≡ more
   others_are = (λ i. drop (size_is i) (spelled_is i)) ∙ drop_at (spelling l) more size refl
 
+  pub spelling_is : spelling_at bytes ≡ spelling l
+  spelling_is = (λ i. take (size_is i) (spelled_is i)) ∙ take_at (spelling l) more size refl
+
   pub first_is : first_at bytes ≡ l
   first_is =
       let label : number_at bytes ≡ l.0 = ap number_at laid ∙ number_again l.0 (to_be_bytes w32 size ++ (spelling l ++ more)) is.label in
-      let spelled : take (size_at bytes) (spelled_at bytes) ≡ spelling l =
-      (λ i. take (size_is i) (spelled_is i)) ∙ take_at (spelling l) more size refl in
-      (λ i. (label i, item_in (spelled i))) ∙ (λ i. (l.0, item_read (is.readable i)))
+      (λ i. (label i, item_in (spelling_is i))) ∙ (λ i. (l.0, item_read (is.readable i)))
 
 -- ---- all items
 

@@ -22,7 +22,7 @@ use Rattle.pgspool.proofs.OpenEntries.{IsCounted-insert}
 use Rattle.pgspool.proofs.OpenEntries.{IsCounted-remove, held_there, held_absent, insert_back}
 use Rattle.pgfilespools.specs.declared.file_items.FileItems.{FileItems}
 use Rattle.pgfilespools.specs.Kept.{AreKept, items_kept}
-use Rattle.pgfilespools.specs.Spooled.{Transactions, held_in_file, AreSpooled}
+use Rattle.pgfilespools.specs.Spooled.{Transactions, held_in_file, AreSpooled, FileSpooled, HasPart}
 use Rattle.pgfilespools.proofs.Keeping.{same_items}
 
 apart : (x y : ℕ) → nat_eq x y ≡ false → x ≡ y → ⊥
@@ -179,3 +179,11 @@ read_same (Err f) a b e is = tt
 pub read_all : (r : Result (List LabelledItem) SpoolFault) (n m : ℕ) → n ≡ m → IfOk r (λ x. length x ≡ n) → IfOk r (λ x. length x ≡ m)
 read_all (Ok x) n m e is = is ∙ e
 read_all (Err f) n m e is = tt
+
+pub part_there : (s : FileSpooled) (p : ℕ × (ℕ × List LabelledItem)) (xid : ℕ) → s.part ≡ Some p → p.0 ≡ xid
+    → HasPart s xid p.1.0 (length p.1.1 + p.1.0)
+part_there s p xid is own = record {
+  items = p.1.1;
+  part = is ∙ ap (λ x. Some (x, p.1)) own;
+  all = refl;
+}

@@ -4,10 +4,9 @@ use Rattle.std.specs.Prelude.{codes}
 use Rattle.pgtuple.specs.Cells.{tuple_spelling}
 use Rattle.pgtuple.specs.declared.cell.Cell.TheVariants.{Text}
 use Rattle.pglogical.specs.Spelling.{item_spelling}
-use Rattle.pglogical.specs.declared.message.Item.{Item}
 use Rattle.pglogical.specs.declared.message.Item.TheVariants.{Insert}
 use Rattle.pgspool.specs.Labels.{LabelledItem}
-use Rattle.pgfilespools.specs.Stored.{stored_item, number_at, size_at, spelled_at, others_at}
+use Rattle.pgfilespools.specs.Stored.{stored_item, number_at, size_at, others_at}
 
 -- an Insert of relation 5 with the one cell 'a', of subtransaction 258
 abbrev one : LabelledItem

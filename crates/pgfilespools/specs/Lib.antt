@@ -1,5 +1,6 @@
 pub mod Faults
 pub mod Stored
+pub mod Spans
 pub mod AreStored
 pub mod Parts
 pub mod Kept

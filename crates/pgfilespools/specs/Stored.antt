@@ -1,9 +1,10 @@
 -- Items as the bytes that are stored of them: for each its label and the length of its spelling,
 -- four bytes each with the most significant first, then the spelling outside a block. So an item
 -- takes as many bytes as it costs.
-use Rattle.std.specs.Prelude.{◌<◌, ◌^◌, ℕ, zero, suc, List, [], ◌∷◌, ◌++◌, None, length, take, drop}
+use Rattle.std.specs.Prelude.{◌≡◌, ◌<◌, ◌^◌, ℕ, zero, suc, List, [], ◌∷◌, ◌++◌, None, length, take}
+use Rattle.std.specs.Prelude.{drop}
 use Rattle.std.specs.Int.{to_be_bytes, from_be_bytes, w32}
-use Rattle.std.specs.List.{flat_map}
+use Rattle.std.specs.List.{flat_map, AllByRecursion}
 use Rattle.pglogical.specs.Spelling.{item_spelling}
 use Rattle.pgspool.specs.Labels.{LabelledItem}
 use Rattle.pgspool.specs.Marks.{item_in, IsReadable}
@@ -31,9 +32,12 @@ spelled_at bytes = drop 4 (drop 4 bytes)
 abbrev pub size_at : List ℕ → ℕ
 size_at bytes = number_at (drop 4 bytes)
 
--- the first item, and the bytes behind it
+-- the first item's spelling, that item, and the bytes behind it
+abbrev pub spelling_at : List ℕ → List ℕ
+spelling_at bytes = take (size_at bytes) (spelled_at bytes)
+
 abbrev pub first_at : List ℕ → LabelledItem
-first_at bytes = (number_at bytes, item_in (take (size_at bytes) (spelled_at bytes)))
+first_at bytes = (number_at bytes, item_in (spelling_at bytes))
 
 abbrev pub others_at : List ℕ → List ℕ
 others_at bytes = drop (size_at bytes) (spelled_at bytes)
@@ -50,3 +54,10 @@ pub record IsStorable (l : LabelledItem) : Type 0 where
   pub label : l.0 < 2 ^ 32
   pub size : length (item_spelling None l.1) < 2 ^ 32
   pub readable : IsReadable l.1
+
+-- so many items, and nothing else
+pub record AreItems (count : ℕ) (bytes : List ℕ) : Type 0 where
+  pub held : List LabelledItem
+  pub all : length held ≡ count
+  pub written : bytes ≡ stored held
+  pub storable : AllByRecursion IsStorable held

@@ -13,11 +13,12 @@ ghost use Rattle.pgfilespools.specs.Kept.{AreKept, items_kept, Keeps, Adds, Wher
 use crate::fault::spool_fault;
 use crate::parts::{Part, cut_parts, note_part, part_from};
 use crate::place::{Place, note_first};
-use crate::stored::{read_items, stored_bytes};
+use crate::read_items::{ReadItems, copy_items, read_items};
+use crate::stored::write_item;
 use indexmap::IndexMap;
 use pglogical::ItemRef;
 use pgspill::{Blocks, Strand};
-use pgspool::{EncodedItems, SpoolFault};
+use pgspool::SpoolFault;
 use sqlite_disk::Disk;
 use std::alloc::Global;
 
@@ -104,36 +105,39 @@ impl FileItems {
         }
     }
 
-    /// Adds an item, in memory.
+    /// Adds an item that costs so many bytes, in memory. What is stored of it is put together in
+    /// the buffer, which many items share, so that none of them takes memory for that.
     ///
     /// # Errors
     ///
     /// `Memory`, and `NoRoom` where the item has four gigabytes or more. The items stay.
     pub(crate) fn push(
         &mut self,
-        alloc: Global,
+        buffer: &mut Vec<u8>,
         subxid: u32,
         item: &ItemRef<'_>,
+        bytes: u64,
     ) -> Result<(), SpoolFault>
         requires start { self.old.strand.start ≤ length self.old.strand.tail.items }
         requires spellable { IsSpellable item.now }
-        requires fits { self.old.bytes + cost item.now < 2 ^ 64 }
+        requires counted { bytes ≡ cost item.now }
+        requires fits { self.old.bytes + bytes < 2 ^ 64 }
         ensures ok { OnOk result (Wherever (Adds (subxid, item.now)) self.old self.new) }
         ensures err { OnErr result (Wherever Keeps self.old self.new) }
         ensures xid { self.new.strand.xid ≡ self.old.strand.xid }
         ensures fault { IfErr result IsOfWriting }
     {
-        let bytes = stored_bytes(alloc, subxid, item)?;
+        write_item(buffer, subxid, item, bytes)?;
         let Some(count) = self.count.checked_add(1) else {
             return Err(SpoolFault::Memory);
         };
         self.firsts.reserve(1)?;
         let first = self.end();
         note_part(&mut self.parts, first)?;
-        self.append(bytes.as_slice())?;
+        self.append(buffer.as_slice())?;
         note_first(&mut self.firsts, subxid, first).unwrap();
         self.count = count;
-        self.bytes += bytes.len() as u64;
+        self.bytes += bytes;
         Ok(())
     }
 
@@ -203,7 +207,7 @@ impl FileItems {
         &self,
         alloc: Global,
         blocks: &mut Blocks<D>,
-    ) -> Result<EncodedItems, SpoolFault>
+    ) -> Result<ReadItems, SpoolFault>
         requires usable { IsTrue (D.is_usable blocks.old.disk) }
         requires kept { AreKept blocks.old.key (D.seen blocks.old.disk) blocks.old.owners.items
             self.now }
@@ -219,9 +223,12 @@ impl FileItems {
         ensures usable { IsTrue (D.is_usable blocks.new.disk) }
         ensures fault { IfErr result IsOfReading }
     {
+        if let Some(bytes) = self.strand.bytes_in_memory() {
+            return copy_items(alloc, bytes, self.count);
+        }
         let mut bytes = Vec::new(alloc);
         match self.strand.read(blocks, &mut bytes) {
-            Ok(()) => read_items(alloc, bytes.as_slice(), self.count),
+            Ok(()) => read_items(alloc, bytes, self.count),
             Err(fault) => Err(spool_fault(fault)),
         }
     }
@@ -270,7 +277,7 @@ impl FileItems {
         alloc: Global,
         blocks: &mut Blocks<D>,
         from: usize,
-    ) -> Result<(EncodedItems, usize), SpoolFault>
+    ) -> Result<(ReadItems, usize), SpoolFault>
         requires usable { IsTrue (D.is_usable blocks.old.disk) }
         requires kept { AreKept blocks.old.key (D.seen blocks.old.disk) blocks.old.owners.items
             self.now }
@@ -293,7 +300,7 @@ impl FileItems {
         };
         let Part { first, last } = part;
         let bytes = self.read_bytes(alloc, blocks, first.bytes, last.bytes)?;
-        let items = read_items(alloc, bytes.as_slice(), last.place - from)?;
+        let items = read_items(alloc, bytes, last.place - from)?;
         Ok((items, last.place))
     }
 

@@ -12,11 +12,12 @@ ghost use Rattle.pgfilespools.specs.Spooled.{IsLoaded, IsReady, IsPart, HasPart}
 
 use crate::file_items::FileItems;
 use crate::parts::PART_BYTES;
+use crate::read_items::ReadItems;
 use crate::stored::OVERHEAD;
 use indexmap::IndexMap;
 use pglogical::{ItemRef, spelled_len};
 use pgspill::Blocks;
-use pgspool::{EncodedItems, SpoolFault, TransactionItems};
+use pgspool::SpoolFault;
 use sqlite_disk::Disk;
 use std::alloc::Global;
 use std::marker::Model;
@@ -38,8 +39,9 @@ pub struct FileSpools<D: Disk + Drop> {
     max_bytes: u64,
     in_memory: u64,
     max_in_memory: u64,
-    loaded: Option<(u32, EncodedItems)>,
-    part: Option<(u32, (usize, EncodedItems))>,
+    buffer: Vec<u8>,
+    loaded: Option<(u32, ReadItems)>,
+    part: Option<(u32, (usize, ReadItems))>,
 }
 
 impl<D: Disk + Drop> Model for FileSpools<D> {
@@ -67,6 +69,17 @@ impl<D: Disk + Drop> Model for FileSpools<D> {
 // Where the items of a transaction cost more, they are better read part after part.
 const LONG_BYTES: u64 = 4 * PART_BYTES;
 
+// Room for so many bytes is kept for the items to come, as most need less.
+const BUFFER_BYTES: usize = 65_536;
+
+// Lets go of the room that a long item took.
+fn give_back(buffer: &mut Vec<u8>) {
+    if buffer.capacity() > BUFFER_BYTES {
+        buffer.clear();
+        buffer.shrink_to_fit();
+    }
+}
+
 // A number of bytes, of which so many have become others.
 fn changed(total: u64, was: usize, now: usize) -> u64 {
     total.saturating_sub(was as u64).saturating_add(now as u64)
@@ -90,6 +103,7 @@ impl<D: Disk + Drop> FileSpools<D> {
             max_bytes,
             in_memory: 0,
             max_in_memory,
+            buffer: Vec::new(alloc),
             loaded: None,
             part: None,
         }
@@ -132,12 +146,18 @@ impl<D: Disk + Drop> FileSpools<D> {
         Ok(())
     }
 
-    // Whether an item costs no more than what is left of the limit.
-    fn has_room(&self, item: &ItemRef<'_>) -> bool
-        ensures { (result ≡ true) ↔ (all_costs self.now.held + cost item.now ≤ self.now.most) }
+    // What an item costs, unless that is more than what is left of the limit.
+    fn cost_within(&self, item: &ItemRef<'_>) -> Option<u64>
+        ensures full { (result ≡ None) ↔
+            (self.now.most < all_costs self.now.held + cost item.now) }
+        ensures value { IfSome result (λ bytes. bytes ≡ cost item.now) }
     {
         let room = self.max_bytes - self.bytes;
-        room >= OVERHEAD && room - OVERHEAD >= spelled_len(item)
+        let size = spelled_len(item);
+        if room < OVERHEAD || room - OVERHEAD < size {
+            return None;
+        }
+        Some(OVERHEAD + size)
     }
 
     // How many transactions are open.
@@ -211,11 +231,18 @@ impl<D: Disk + Drop> FileSpools<D> {
         self.spill_long()
     }
 
-    // Holds an item after those of its transaction, in memory.
-    fn hold(&mut self, xid: u32, subxid: u32, item: &ItemRef<'_>) -> Result<(), SpoolFault>
+    // Holds an item that costs so many bytes after those of its transaction, in memory.
+    fn hold(
+        &mut self,
+        xid: u32,
+        subxid: u32,
+        item: &ItemRef<'_>,
+        bytes: u64,
+    ) -> Result<(), SpoolFault>
         requires open { map.contains_key self.old.held xid ≡ true }
         requires spellable { IsSpellable item.now }
-        requires room { all_costs self.old.held + cost item.now ≤ self.old.most }
+        requires counted { bytes ≡ cost item.now }
+        requires room { all_costs self.old.held + bytes ≤ self.old.most }
         ensures ok { OnOk result (self.new.held ≡ map.insert self.old.held xid
             (held_of self.old.held xid ++ (subxid, item.now) ∷ [])) }
         ensures fault { IfErr result IsOfWriting }
@@ -224,14 +251,13 @@ impl<D: Disk + Drop> FileSpools<D> {
         ensures honest { self.new.is_honest ≡ self.old.is_honest }
         ensures part { self.new.part ≡ self.old.part }
     {
-        let alloc = self.alloc;
-        let cost = OVERHEAD + spelled_len(item);
         let Some(items) = self.transactions.get_mut(&xid) else {
             unreachable!()
         };
-        items.push(alloc, subxid, item)?;
-        self.bytes += cost;
-        self.in_memory = self.in_memory.saturating_add(cost);
+        items.push(&mut self.buffer, subxid, item, bytes)?;
+        self.bytes += bytes;
+        self.in_memory = self.in_memory.saturating_add(bytes);
+        give_back(&mut self.buffer);
         Ok(())
     }
 
@@ -266,12 +292,12 @@ impl<D: Disk + Drop> FileSpools<D> {
         ensures honest { self.new.is_honest ≡ self.old.is_honest }
         ensures part { OnOk result (self.new.part ≡ None) }
     {
-        if !self.has_room(item) {
+        let Some(bytes) = self.cost_within(item) else {
             return Err(SpoolFault::SpoolFull);
-        }
+        };
         self.unload();
-        self.make_room(OVERHEAD.saturating_add(spelled_len(item)))?;
-        self.hold(xid, subxid, item)
+        self.make_room(bytes)?;
+        self.hold(xid, subxid, item, bytes)
     }
 
     /// Keeps a transaction's items before the first one of a subtransaction: all of them where it
@@ -316,7 +342,7 @@ impl<D: Disk + Drop> FileSpools<D> {
     }
 
     // Reads a transaction's items.
-    fn read(&mut self, xid: u32) -> Result<EncodedItems, SpoolFault>
+    fn read(&mut self, xid: u32) -> Result<ReadItems, SpoolFault>
         ensures read { IsTrue self.new.is_honest → IfOk result (λ items. items
             ≡ held_of self.old.held xid) }
         ensures all { IfOk result (λ items. length items ≡ length (held_of self.old.held xid)) }
@@ -328,7 +354,7 @@ impl<D: Disk + Drop> FileSpools<D> {
         let alloc = self.alloc;
         match self.transactions.get(&xid) {
             Some(items) => items.load(alloc, &mut self.blocks),
-            None => Ok(EncodedItems::new(alloc)),
+            None => Ok(ReadItems::new(alloc)),
         }
     }
 
@@ -377,7 +403,7 @@ impl<D: Disk + Drop> FileSpools<D> {
     }
 
     // Reads the items of a transaction's part, and returns the index behind the last one too.
-    fn read_part(&mut self, xid: u32, from: usize) -> Result<(EncodedItems, usize), SpoolFault>
+    fn read_part(&mut self, xid: u32, from: usize) -> Result<(ReadItems, usize), SpoolFault>
         requires { from ≤ length (held_of self.old.held xid) }
         ensures read { IsTrue self.new.is_honest → IfOk result (λ it. it.0
             ≡ slice_range (held_of self.old.held xid) from it.1) }
@@ -393,7 +419,7 @@ impl<D: Disk + Drop> FileSpools<D> {
         let alloc = self.alloc;
         match self.transactions.get(&xid) {
             Some(items) => items.load_part(alloc, &mut self.blocks, from),
-            None => Ok((EncodedItems::new(alloc), from)),
+            None => Ok((ReadItems::new(alloc), from)),
         }
     }
 
@@ -426,13 +452,15 @@ impl<D: Disk + Drop> FileSpools<D> {
         Ok(to)
     }
 
-    /// Borrows the item of a transaction at an index of the part that was loaded last.
+    /// Borrows the item of a transaction at an index of the part that was loaded last: none where
+    /// that is another transaction's.
     pub fn part_item(&self, xid: u32, index: usize) -> Option<ItemRef<'_>>
         ensures value { (from to : ℕ) → IsPart self.now xid from to → from ≤ index → index < to →
             result ≡ option_map (λ (l : LabelledItem). l.1)
             (slice_get (held_of self.now.held xid) index) }
         ensures there { (from to : ℕ) → HasPart self.now xid from to → from ≤ index → index < to →
             IsSome result }
+        ensures others { ((from to : ℕ) → HasPart self.now xid from to → ⊥) → result ≡ None }
         ensures spellable { IfSome result (λ i. IsSpellable i) }
     {
         let (loaded, (from, items)) = self.part.as_ref()?;

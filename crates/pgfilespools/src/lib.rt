@@ -28,6 +28,8 @@ mod file_items;
 mod file_spools;
 mod parts;
 mod place;
+mod read_items;
+mod span;
 mod spools;
 mod stored;
 

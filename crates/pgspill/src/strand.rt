@@ -1,7 +1,7 @@
 //! A strand: the bytes of one transaction, the last of them in memory.
 
 ghost use Rattle.std.specs.Prelude.{◌≡◌, ◌<◌, ◌≤◌, ◌++◌, ℕ, List, [], Option, Some, length, take};
-ghost use Rattle.std.specs.Prelude.{◌-◌, IsTrue, IfErr, OnOk, OnErr, drop, slice_range};
+ghost use Rattle.std.specs.Prelude.{◌-◌, IsTrue, IfErr, IfSome, OnOk, OnErr, drop, slice_range};
 ghost use Rattle.pgspill.specs.Faults.{IsWriteFault, IsReadFault, IsOutOfMemory};
 ghost use Rattle.std.specs.List.{slice_get};
 ghost use Rattle.pgspill.specs.Pieces.{KeepsPieces, bytes_of};
@@ -47,6 +47,18 @@ impl Strand {
         ensures { result ≡ length self.now.tail.items }
     {
         self.tail.len()
+    }
+
+    /// All of its bytes, where none of them is in a block.
+    pub fn bytes_in_memory(&self) -> Option<&[u8]>
+        requires { self.now.start ≤ length self.now.tail.items }
+        ensures { IfSome result (λ bytes. (file : List ℕ) →
+            bytes.now ≡ strand_bytes file self.now) }
+    {
+        if !self.pieces.is_empty() {
+            return None;
+        }
+        Some(&self.tail[self.start..])
     }
 
     /// Appends bytes, in memory.

@@ -169,28 +169,6 @@ readable-cut label (x ∷ xs) all =
       | false ↦ (all.0, readable-cut label xs all.1)
     ]
 
-some_mark : (x y : Mark) → ◌≡◌ {A = Option Mark} (Some x) (Some y) → x ≡ y
-some_mark x y e = ap (λ (o : Option Mark). unwrap_or o x) e
-
--- where no mark is, and where one is
-pub no_mark : (k : ℕ) (marks : List Mark) → None ≡ slice_get marks k → length marks ≤ k
-no_mark k [] e = omega arith
-no_mark zero (m ∷ ms) e = absurd cc
-no_mark (suc k) (m ∷ ms) e = omega (arith, no_mark k ms e)
-
-pub mark_within : (k : ℕ) (marks : List Mark) (m : Mark) → slice_get marks k ≡ Some m → k < length marks
-mark_within k [] m e = absurd cc
-mark_within zero (n ∷ ms) m e = omega arith
-mark_within (suc k) (n ∷ ms) m e = omega (arith, mark_within k ms m e)
-
--- a mark has the label of its item
-label_is : (k n : ℕ) (held : List LabelledItem) (l : LabelledItem) (m : Mark) → slice_get held k ≡ Some l
-    → slice_get (marks_from n held) k ≡ Some m → m.subxid ≡ l.0
-label_is k n [] l m e marked = absurd cc
-label_is zero n (h ∷ hs) l m e marked =
-    ap (λ (x : Mark). x.subxid) (sym (some_mark _ m marked)) ∙ ap (λ (x : LabelledItem). x.0) (some_is h l e)
-label_is (suc k) n (h ∷ hs) l m e marked = label_is k (n + length (spelling h)) hs l m e marked
-
 -- ---- the fields
 
 -- a spool that holds these items is seen as them
@@ -264,25 +242,4 @@ module _ (held : List LabelledItem) (marks : List Mark) (buffer : List ℕ) (fir
         marked = ap (take place) is.marked ∙ take-marks place 0 held ∙ ap (marks_from 0) kept_is;
         written = (λ i. take (from i) (is.written i)) ∙ take-spelled place held ∙ ap spelled kept_is;
         readable = readable-cut label held is.readable;
-      }
-
-  -- the label of an item, and the bytes that spell it
-  pub record IsEncodingAt (k label : ℕ) (encoding : List ℕ) : Type 0 where
-    pub found : slice_get held k ≡ Some (label, item_in encoding)
-    pub spelled : encoding ≡ item_spelling None (item_in encoding)
-    pub readable : IsReadable (item_in encoding)
-    pub spellable : IsSpellable (item_in encoding)
-
-  pub encoding_at : (k end : ℕ) (m : Mark) (encoding : List ℕ) → IsItemAt k m.start end → slice_get marks k ≡ Some m
-      → encoding ≡ slice_range buffer m.start end → IsEncodingAt k m.subxid encoding
-  encoding_at k end m encoding at marked_at encoding_is =
-      let spelled_as : encoding ≡ spelling at.item = encoding_is ∙ at.part in
-      let same : item_in encoding ≡ at.item.1 = ap item_in spelled_as ∙ ap item_read at.readable in
-      let label : at.item.0 ≡ m.subxid =
-      sym (label_is k 0 held at.item m at.found (ap (λ (ms : List Mark). slice_get ms k) (sym is.marked) ∙ marked_at)) in
-      record {
-        found = at.found ∙ (λ i. Some (label i, sym same i));
-        spelled = spelled_as ∙ ap (item_spelling None) (sym same);
-        readable = subst IsReadable (sym same) at.readable;
-        spellable = subst IsSpellable (sym same) (spellable_there k held at.item is.index.spellable at.found);
       }

@@ -1,10 +1,10 @@
 //! The items of one open transaction, as the bytes that encode them.
 ghost use Rattle.std.specs.Prelude.{◌≡◌, option_map, slice_get, slice_range, length, None, false};
-ghost use Rattle.std.specs.Prelude.{◌≤◌, ◌<◌, Some, IfSome, IsSome};
+ghost use Rattle.std.specs.Prelude.{◌≤◌};
 ghost use Rattle.pglogical.specs.Borrowed.{message_value};
 ghost use Rattle.pglogical.specs.Reading.{message_at};
-ghost use Rattle.pglogical.specs.Spelling.{IsWire, IsSpellable, item_spelling};
-ghost use Rattle.pgspool.specs.Marks.{start_or, item_part, item_at_all, item_in, IsReadable};
+ghost use Rattle.pglogical.specs.Spelling.{IsWire, item_spelling};
+ghost use Rattle.pgspool.specs.Marks.{start_or, item_part, item_at_all, IsReadable};
 
 use crate::first_place::{FirstPlace, note_first};
 use crate::mark::Mark;
@@ -185,22 +185,6 @@ impl TransactionItems for EncodedItems {
 }
 
 impl EncodedItems {
-    /// Borrows what is kept of the item at an index: its subxid, and the bytes that encode it
-    /// outside a block.
-    pub fn encoding(&self, index: usize) -> Option<(u32, &[u8])>
-        ensures there { index < length self.now → IsSome result }
-        ensures item { IfSome result (λ it.
-            slice_get self.now index ≡ Some (it.0, item_in it.1.now)) }
-        ensures spelled { IfSome result (λ it.
-            it.1.now ≡ item_spelling None (item_in it.1.now)) }
-        ensures readable { IfSome result (λ it. IsReadable (item_in it.1.now)) }
-        ensures spellable { IfSome result (λ it. IsSpellable (item_in it.1.now)) }
-    {
-        let Mark { subxid, start } = mark_at(self.marks.as_slice(), index)?;
-        let end = start_of(self.marks.as_slice(), index + 1, self.buffer.len());
-        Some((subxid, part(self.buffer.as_slice(), start, end)))
-    }
-
     /// Gives back the room of items that a cut took away whole. Nothing has to be moved, so this
     /// takes no memory.
     fn give_back_all(&mut self)

@@ -1,4 +1,4 @@
-use Rattle.std.proofs.Common.{◌<◌, ap, ◌∙◌, arith}
+use Rattle.std.proofs.Common.{ap, arith}
 use Rattle.pgspool.specs.declared.first_place.FirstPlace.{FirstPlace}
 use Rattle.pgfilespools.proofs.Parting.{parts-note}
 use Rattle.pgfilespools.proofs.parts.note_part.Goals as goal

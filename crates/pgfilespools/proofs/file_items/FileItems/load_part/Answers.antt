@@ -30,15 +30,15 @@ returns-clause-read g c clean =
     let t = c.args.self.now in
     part_read (items_kept file t) (strand_bytes file t.strand) t.firsts.entries t.bytes c.requires.kept.stored c.args.from
     c.in-Some.part.first c.in-Some.part.last (bounds g (goal.at.returns-clause-read g c).In-Some)
-    c.in_ok-items.items c.as_slice-2.result.now c.last.inside.place c.first.inside.bytes c.last.inside.bytes
+    c.in_ok-items.items _ c.last.inside.place c.first.inside.bytes c.last.inside.bytes
     (ap (λ (p : FirstPlace). p.place) c.last.view_is) (ap (λ (p : FirstPlace). p.bytes) c.first.view_is)
     (ap (λ (p : FirstPlace). p.bytes) c.last.view_is)
-    c.in_ok-items.ensures.read (c.as_slice-2.ensures.value ∙ c.in_ok-bytes.ensures.read clean)
+    c.in_ok-items.ensures.read (c.in_ok-bytes.ensures.read clean)
 
 pub returns-clause-count : goal.returns-clause-count
 returns-clause-count g c =
     part_count (items_kept (g.D.Disk.seen c.args.blocks.now.disk) c.args.self.now) c.args.from c.in-Some.part.first c.in-Some.part.last
-    (bounds g (goal.at.returns-clause-count g c).In-Some) c.in_ok-items.items c.as_slice-2.result.now c.last.inside.place
+    (bounds g (goal.at.returns-clause-count g c).In-Some) c.in_ok-items.items _ c.last.inside.place
     (ap (λ (p : FirstPlace). p.place) c.last.view_is) c.in_ok-items.ensures.read
 
 pub returns-clause-within : goal.returns-clause-within

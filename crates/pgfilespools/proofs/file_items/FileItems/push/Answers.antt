@@ -49,9 +49,9 @@ returns-clause-ok c key file owners is =
     ≡ noted c.args.self.now.firsts.entries c.args.subxid (record { place = c.args.self.now.count; bytes = c.args.self.now.bytes }) =
     search rules in
     let count : c.in-Some.count ≡ c.args.self.now.count + 1 = search rules in
-    let sum : new.bytes + c.len.result ≡ c.args.self.now.bytes + cost c.args.item.now = search rules in
+    let sum : new.bytes + c.args.bytes ≡ c.args.self.now.bytes + cost c.args.item.now = search rules in
     let bytes = e.ok file
-    ∙ ap (λ b. strand_bytes file c.args.self.now.strand ++ b) (c.as_slice.ensures.value ∙ c.in_ok-bytes.ensures.bytes) in
+    ∙ ap (λ b. strand_bytes file c.args.self.now.strand ++ b) (c.as_slice.ensures.value ∙ c.in_ok-write_item.ensures.bytes) in
     let r = more_items key file owners c.args.self.now is _ c.args.subxid c.args.item.now (e.strand key file owners is.strand) bytes firsts
-    (rw e.parts (parts_are a key file owners is)) count sum c.requires.spellable c.in_ok-bytes.ensures.storable in
+    (rw e.parts (parts_are a key file owners is)) count sum c.requires.spellable c.in_ok-write_item.ensures.storable in
     record { kept = r.0; added = r.1 }

@@ -12,9 +12,6 @@ use Rattle.pgfilespools.proofs.Spooling.{all_stay, found_held, put_held, put_spo
 use Rattle.pgfilespools.proofs.Spooling.{back_spooled}
 use Rattle.pgfilespools.proofs.file_spools.FileSpools.hold.Goals as goal
 
-pub overflow_add-cost : goal.overflow_add-cost
-overflow_add-cost g c = let most = ap (λ (v : FileSpooled). v.most) c.self.view_is in omega arith
-
 pub unreachable-requires : goal.unreachable-requires
 unreachable-requires g c =
     let s = c.self.inside in
@@ -36,7 +33,8 @@ push-requires-clause-fits g c =
     let sum = c.self.invariant.0.counted.counted in
     let all = one_within_all (held_in_file file s.transactions.entries) s.bytes s.max_bytes c.args.xid c.self.invariant.0.counted in
     let here = ap costs (found_held file s.transactions.entries c.args.xid t c.in-Some.ensures.value) in
-    let counted = (c.self.invariant.0.each c.args.xid t c.in-Some.ensures.value).0.stored.index.counted in
+    let kept = (c.self.invariant.0.each c.args.xid t c.in-Some.ensures.value).0.stored.index.counted in
+    let cost_is = c.requires.counted in
     let room = c.requires.room in
     omega arith
 
@@ -86,6 +84,7 @@ invariant_of-self-2 g c =
     let here = ap costs (found_held file s.transactions.entries c.args.xid t c.in-Some.ensures.value) in
     let pushed = ap costs adds.added
     ∙ sum_by_push (λ (l : LabelledItem). cost l.1) (items_kept file t) (c.args.subxid, c.args.item.now) in
+    let cost_is = c.requires.counted in
     let room = c.requires.room in (
       put_spooled c.args.xid b.key b.key file file b.owners.items b.owners.items (all_stay c.args.xid b.key file b.owners.items)
           refl s.transactions.entries (c.get_mut.follows.lender t').entries s.bytes s.max_bytes c.self.invariant.0
