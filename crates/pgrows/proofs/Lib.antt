@@ -6,6 +6,7 @@ pub mod Placed
 pub mod Found
 pub mod Edited
 pub mod Position
+pub mod Version
 pub mod Defined
 pub mod First
 pub mod Emptied

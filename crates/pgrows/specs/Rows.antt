@@ -6,6 +6,7 @@ use Rattle.std.specs.List.{AllByRecursion}
 use Rattle.sqlite.specs.declared.types.Value.TheVariants.{Int, Blob}
 use Rattle.sqlite.specs.Order.{Row, column}
 use Rattle.sqlite.specs.Tree.{Trees, rowid}
+use Rattle.sqlite_trees.specs.Objects.{version_tree, version_rows}
 use Rattle.sqlite.specs.View.{Snapshot, View, IsClean}
 use Rattle.sqlite.specs.Effect.{Database}
 use Rattle.sqlite.specs.Store.{Ghosts}
@@ -19,6 +20,10 @@ use Rattle.pgtables.specs.Kept.{tables_in, with_row}
 
 abbrev pub database : Trees → Database
 database db = record { schema = store_schema; trees = db }
+
+-- the file tells the version of the tables' layout, as SQLite's user version
+abbrev pub TellsVersion : Trees → Type 0
+TellsVersion db = db version_tree ≡ version_rows 1
 
 -- no rowid is above this one
 abbrev pub AreBelow : ℤ → List Row → Type 0

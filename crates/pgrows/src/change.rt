@@ -5,8 +5,8 @@ ghost use Rattle.sqlite.specs.State.{HasCleanDisk};
 ghost use Rattle.sqlite_trees.specs.View.{IsClean, IsQuiet, OnlyWrites};
 ghost use Rattle.pgtables.specs.Kept.{IsKept, is_there, tables_in, with_place, with_row};
 ghost use Rattle.pgtables.specs.Kept.{without_row};
-ghost use Rattle.pgrows.specs.Rows.{AreBelow, AreRows, IsGood, IsStored, Keeps, Makes, database};
-ghost use Rattle.pgrows.specs.Rows.{state, tables_of, with_row_if_there};
+ghost use Rattle.pgrows.specs.Rows.{AreBelow, AreRows, IsGood, IsStored, Keeps, Makes};
+ghost use Rattle.pgrows.specs.Rows.{TellsVersion, database, state, tables_of, with_row_if_there};
 
 use crate::entry::{write_entry, write_place, write_row};
 use crate::find::{INDEX, PLACE, TABLE};
@@ -15,6 +15,9 @@ use crate::search::{Search, find};
 use sqlite_trees::error::StoreError;
 use sqlite_trees::store::Alter;
 use sqlite_value::row::Row;
+
+/// The version of the tables' layout, which a file tells as SQLite's user version.
+pub(crate) const VERSION: u32 = 1;
 
 /// Removes the row that has this rowid, which has the key, and its entry.
 pub(crate) fn take_out<S: Alter>(
@@ -139,8 +142,8 @@ pub(crate) fn set<S: Alter>(
     }
 }
 
-/// Puts the position.
-pub(crate) fn put_place<S: Alter>(
+/// Puts the row of the position.
+fn put_place_row<S: Alter>(
     store: &mut S,
     row: &mut Row,
     _last: Option<i64>,
@@ -160,4 +163,48 @@ pub(crate) fn put_place<S: Alter>(
     }
     write_place(row, position)?;
     store.put(PLACE, row)
+}
+
+/// Sets the version where the file tells another, as one that was just made does.
+fn put_version<S: Alter>(store: &mut S, _last: Option<i64>) -> Result<(), StoreError>
+    requires { AreRows S.Store store.old _last }
+    ensures version { IsClean (S.Store.view store.new) →
+        OnOk result (TellsVersion (S.Store.view store.new).trees) }
+    ensures made { IsClean (S.Store.view store.new) → OnOk result
+        (Makes S.Store (λ t. t) store.old store.new) }
+    ensures rows { OnOk result (AreRows S.Store store.new _last) }
+    ensures keeps { HasCleanDisk (state S.Store store.new) →
+        Keeps S.Store store.old store.new }
+    ensures quiet { IsQuiet S.Store.view S.Store.faults S.Store.recovers S.Store.is_shielded
+        store.old store.new }
+{
+    if store.is_broken() {
+        return Err(StoreError::Broken);
+    }
+    if store.version() == VERSION {
+        return Ok(());
+    }
+    store.set_version(VERSION)
+}
+
+/// Puts the position, and the version where the file doesn't tell it yet.
+pub(crate) fn put_place<S: Alter>(
+    store: &mut S,
+    row: &mut Row,
+    last: Option<i64>,
+    position: &[u8],
+) -> Result<(), StoreError>
+    requires { AreRows S.Store store.old last }
+    ensures version { IsClean (S.Store.view store.new) →
+        OnOk result (TellsVersion (S.Store.view store.new).trees) }
+    ensures made { IsClean (S.Store.view store.new) → OnOk result
+        (Makes S.Store (with_place position.now) store.old store.new) }
+    ensures rows { OnOk result (AreRows S.Store store.new last) }
+    ensures keeps { HasCleanDisk (state S.Store store.new) →
+        Keeps S.Store store.old store.new }
+    ensures quiet { IsQuiet S.Store.view S.Store.faults S.Store.recovers S.Store.is_shielded
+        store.old store.new }
+{
+    put_place_row(store, row, last, position)?;
+    put_version(store, last)
 }

@@ -13,7 +13,8 @@ ghost use Rattle.pgtables.specs.Shown.{FitsCopies, FitsDefinition};
 ghost use Rattle.pgrows.specs.declared.fault.ReadFault.TheVariants.{Malformed};
 ghost use Rattle.pgrows.specs.Dump.{GivesAll, GivesFront, LeavesAt};
 ghost use Rattle.pgrows.specs.Rows.{Drops, GoesBack, IfServing, IsNumbered, Keeps, Makes, Marks};
-ghost use Rattle.pgrows.specs.Rows.{Shows, database, state, tables_of, with_row_if_there};
+ghost use Rattle.pgrows.specs.Rows.{Shows, TellsVersion, database, state, tables_of};
+ghost use Rattle.pgrows.specs.Rows.{with_row_if_there};
 ghost use Rattle.pgrows.specs.Walk.{EachFits, EndsAt, HasNoRow, HasRow, IsNextRow};
 
 use crate::change::{put_place, remove, set};
@@ -490,8 +491,10 @@ impl<S: Alter> Rows<S> {
         }
     }
 
-    /// Puts the position.
+    /// Puts the position. From then on the file tells the version of the tables' layout.
     pub fn put_position(&mut self, position: &[u8]) -> Result<(), StoreError>
+        ensures version { HasCleanDisk (state S.Store self.new) →
+            OnOk result (TellsVersion (state S.Store self.new).now.trees) }
         ensures made { HasCleanDisk (state S.Store self.new) → OnOk result
             (Makes S.Store (with_place position.now) self.old self.new) }
         ensures keeps { HasCleanDisk (state S.Store self.new) →

@@ -1,17 +1,17 @@
 //! Reads the row that has a key, and puts one whether its key is there or not.
 
-ghost use Rattle.std.specs.Prelude.{◌≡◌, ◌∷◌, ℤ, Some, None, IfOk, MatchBool, OnOk};
+ghost use Rattle.std.specs.Prelude.{◌≡◌, ◌∷◌, Some, None, IfOk, MatchBool, OnOk};
 ghost use Rattle.std.specs.FinMap.{get};
 ghost use Rattle.sqlite.specs.State.{HasCleanDisk};
-ghost use Rattle.sqlite.specs.declared.types.Value.TheVariants.{Int};
 ghost use Rattle.sqlite_trees.specs.View.{IsClean, IsQuiet};
-ghost use Rattle.pgtables.specs.Kept.{Copies, held_row, with_row};
+ghost use Rattle.pgtables.specs.Kept.{with_row};
 ghost use Rattle.pgrows.specs.Rows.{AreRows, Keeps, Makes, state, tables_of};
+ghost use Rattle.pgrows.specs.Stored.{IsRowOf};
 
 use crate::change::put_over;
 use crate::find::TABLE;
 use crate::insert::{append, top_of};
-use crate::search::{Search, find};
+use crate::search::{Search, find, find_guessed, find_listed};
 use sqlite_trees::error::StoreError;
 use sqlite_trees::store::Alter;
 use sqlite_value::row::Row;
@@ -69,8 +69,7 @@ pub(crate) fn read<S: Alter>(
 ) -> Result<bool, StoreError>
     requires { AreRows S.Store store.old _last }
     ensures found { IsClean (S.Store.view store.new) → IfOk result (λ found. MatchBool found
-        ((k : Copies) × (get (tables_of S.Store store.old).rows (oid ∷ ident.now) ≡ Some k)
-        × (id : ℤ) × (search.new.row ≡ held_row (Int id) oid ident.now k))
+        (IsRowOf oid ident.now (tables_of S.Store store.old) search.new.row)
         (get (tables_of S.Store store.old).rows (oid ∷ ident.now) ≡ None)) }
     ensures made { IsClean (S.Store.view store.new) → OnOk result
         (Makes S.Store (λ t. t) store.old store.new) }
@@ -83,7 +82,11 @@ pub(crate) fn read<S: Alter>(
     if store.is_broken() {
         return Err(StoreError::Broken);
     }
-    match find(store, search, oid, ident)? {
+    let guessed = find_guessed(store, search, oid, ident)?;
+    if guessed.is_some() {
+        return Ok(true);
+    }
+    match find_listed(store, search, oid, ident)? {
         Some(id) => store.get(TABLE, id, &mut search.row),
         None => Ok(false),
     }

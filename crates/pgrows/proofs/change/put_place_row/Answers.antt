@@ -5,7 +5,7 @@ use Rattle.sqlite_rules.proofs.ViewLemmas.{on_ok_both}
 use Rattle.pgrows.proofs.SetUp.{place_shape}
 use Rattle.pgrows.proofs.Found.{open_of, wrote_under, low_still}
 use Rattle.pgrows.proofs.Position.{placed_by, rows_stay}
-use Rattle.pgrows.proofs.change.put_place.Goals as goal
+use Rattle.pgrows.proofs.change.put_place_row.Goals as goal
 
 pub put-requires-clause-table : goal.put-requires-clause-table
 put-requires-clause-table g c clean =
