@@ -5,7 +5,8 @@ use Rattle.sqlite.specs.Files.{over_files}
 use Rattle.pgorder.specs.declared.Version.{Version}
 use Rattle.pgapply.specs.Taken.{Stays}
 use Rattle.pgapply.specs.Value.{Tables}
-use Rattle.pgstore.specs.StoreValue.{HasTables, Holds, IsHonest, Serves, nothing_stored}
+use Rattle.pgstore.specs.StoreValue.{HasTables, Holds, IsHonest, Serves}
+use Rattle.pgencoded.specs.DatabaseValue.{nothing_stored}
 use Rattle.pgsub_core.specs.Subscriber.Subscribed.{Subscribed, disconnect, newly}
 use Rattle.pgsub_core.specs.Subscriber.SubscriberValue.{seen}
 use Rattle.pgembed.specs.contracts.embedded.InMemory as in_memory

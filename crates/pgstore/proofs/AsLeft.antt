@@ -48,7 +48,7 @@ use Rattle.sqlite.proofs.FileLemmas.{is_something}
 use Rattle.pgtables.specs.Schema.{store_schema}
 use Rattle.pgrows.specs.Rows as rows
 use Rattle.pgapply.specs.Stored.{Stored}
-use Rattle.pgstore.specs.StoreValue.{AreOf}
+use Rattle.pgencoded.specs.DatabaseValue.{AreOf}
 use Rattle.pgstore.specs.Reopened.{ClosedIsAsLeft, CrashIsAsLeft, IsAsLeft}
 use Rattle.pgstore.proofs.Reopened.{still_held}
 

@@ -8,8 +8,8 @@ use Rattle.pglogical.specs.declared.message.RelationDef.{RelationDef}
 use Rattle.pgtables.specs.Kept.{tables_in}
 use Rattle.pgrows.specs.Rows.{Drops, Marks, mark_of, state}
 use Rattle.pgapply.specs.declared.op.Op.{Op}
-use Rattle.pgstore.specs.Spelled.{IsStored}
-use Rattle.pgstore.specs.Acts.{FoldsOn, Goes, none_given}
+use Rattle.pgencoded.specs.Spelled.{IsStored}
+use Rattle.pgencoded.specs.Acts.{FoldsOn, Goes, none_given}
 use Rattle.pgstore.specs.Staged.{Returns, Stages, Unstages}
 
 one_longer : (older : List Savepoint) (mark : Savepoint) → length (older ++ mark ∷ []) ≡ length older + 1

@@ -12,10 +12,10 @@ use Rattle.pgrows.specs.Rows.{IfServing, Makes, Shows, database, state, tables_o
 use Rattle.pgapply.specs.declared.op.Op.{Op}
 use Rattle.pgapply.specs.declared.fault.StoreFault.{StoreFault}
 use Rattle.pgapply.specs.Value.{Tables}
+use Rattle.pgencoded.specs.Spelled.{IsStored}
+use Rattle.pgencoded.specs.Acts.{FoldsOn, Goes, HasTaken, IsBegun, LeavesTaken, Places}
+use Rattle.pgencoded.specs.Acts.{RefusesToFold, committed_of, none_given}
 use Rattle.pgstore.specs.Sources.{Begins}
-use Rattle.pgstore.specs.Spelled.{IsStored}
-use Rattle.pgstore.specs.Acts.{FoldsOn, Goes, HasTaken, IsBegun, LeavesTaken, Places, RefusesToFold}
-use Rattle.pgstore.specs.Acts.{committed_of, none_given}
 
 -- the position isn't part of the value
 placed : (v : Tables) (t : stored.Tables) (place : List ℕ) → IsStored v t → IsStored v (with_place place t)

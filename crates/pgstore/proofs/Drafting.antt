@@ -14,10 +14,10 @@ use Rattle.pgledger.specs.Images.{Line, images, lines}
 use Rattle.pgledger.specs.Ledgers.{Keeps, UnaskedKeeps}
 use Rattle.pgledger.specs.Drafts.{BeginsDraft, KeepsDraft}
 use Rattle.pgledger.proofs.Calls.{rests_same, rests_then}
-use Rattle.pgstore.specs.Looks.{AppendsFrom}
+use Rattle.pgchanging.specs.Looks.{AppendsFrom}
+use Rattle.pgchanging.proofs.ToldImages.{lines_append}
 use Rattle.pgstore.specs.Parted.{AddsImages, AddsParts, OnlyDrafts, TakesParts}
 use Rattle.pgstore.proofs.Applying.{fold_append, fold_none}
-use Rattle.pgstore.proofs.Telling.{lines_append}
 
 -- ---- calls that change nothing but what it has of the commit
 

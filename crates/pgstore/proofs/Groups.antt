@@ -26,8 +26,8 @@ use Rattle.pgapply.specs.Stored.{Stored, IsFault}
 use Rattle.pgapply.specs.Missing.{all_missing, with_misses}
 use Rattle.pgapply.specs.Tallies.{Counts, Tally, taken_commit}
 use Rattle.pgapply.specs.Taken as taken
-use Rattle.pgstore.specs.Spelled.{IsStored}
-use Rattle.pgstore.specs.Acts.{CountsFrom, RefusesToFold, committed_of}
+use Rattle.pgencoded.specs.Spelled.{IsStored}
+use Rattle.pgencoded.specs.Acts.{CountsFrom, RefusesToFold, committed_of}
 use Rattle.pgstore.specs.Staged.{before_of, HasStaged, KeepsStaged, LeavesSettled, Settles}
 use Rattle.pgstore.specs.StoreValue.{Group, IsAtLeast, IsGroup, IsStore, HasTables, Keeps}
 use Rattle.pgstore.specs.StoreValue.{LeavesGroup, LeavesSynced, Plans, Serves, StoreValue, begun_at}

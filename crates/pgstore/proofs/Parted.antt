@@ -20,14 +20,14 @@ use Rattle.pgapply.specs.Apply.{Change, ◌>>=◌, fold_changes}
 use Rattle.pgapply.specs.Missing.{all_missing, with_misses}
 use Rattle.pgapply.specs.Tallies.{Tally}
 use Rattle.pgapply.specs.Stored.{IsFault}
-use Rattle.pgstore.specs.Acts.{CountsFrom, Folds, Goes, none_given}
+use Rattle.pgencoded.specs.Acts.{CountsFrom, Folds, Goes, none_given}
+use Rattle.pgencoded.specs.Spelled.{IsStored}
+use Rattle.pgencoded.proofs.Deciding.{fault_first}
 use Rattle.pgstore.specs.Parted.{HasStagedParts, RefusesChanges, StagesParts, TakesParts}
-use Rattle.pgstore.specs.Spelled.{IsStored}
 use Rattle.pgstore.specs.StoreValue.{Group, IsGroup, IsStore, staged_of}
 use Rattle.pgstore.proofs.Applying.{fold_append, fold_none, nothing_given}
 use Rattle.pgstore.proofs.Behind.{stages}
 use Rattle.pgstore.proofs.Counting.{counted_more, counted_none}
-use Rattle.pgstore.proofs.Deciding.{fault_first}
 use Rattle.pgstore.proofs.Groups.{staged_group}
 
 -- ---- any changes are those of a work: each has a definition of its own

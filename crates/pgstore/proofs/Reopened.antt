@@ -19,16 +19,16 @@ use Rattle.pgtables.proofs.Listed.{schema_once}
 use Rattle.pgtables.specs.Kept as stored
 use Rattle.pgtables.specs.Kept.{IfServing}
 use Rattle.pgrows.specs.Rows as rows
-use Rattle.pgstore.specs.Acts.{committed_of}
+use Rattle.pgencoded.specs.Acts.{committed_of}
 use Rattle.pgapply.specs.Value.{Tables}
 use Rattle.pgapply.specs.Stored.{Stored}
-use Rattle.pgstore.specs.Spelled.{IsStored}
-use Rattle.pgstore.specs.StoreValue.{AreOf, Holds, IsValueOf, LeavesAdopted, StoreValue}
-use Rattle.pgstore.specs.StoreValue.{nothing_stored}
+use Rattle.pgencoded.specs.Spelled.{IsStored}
+use Rattle.pgencoded.specs.DatabaseValue.{AreOf, IsValueOf, LeavesAdopted, nothing_stored}
+use Rattle.pgadopt.proofs.Founding.{whole_value}
+use Rattle.pgstore.specs.StoreValue.{Holds, StoreValue}
 use Rattle.pgstore.specs.Reopened.{AdoptedHoldsContent, ClosedIsReopened, HoldsContent}
 use Rattle.pgstore.specs.Reopened.{IsCopiedTo, LeftIsReopened, RefusedStaysAsFound, Reopens}
 use Rattle.pgstore.specs.Reopened.{ReopensNothingOlder, ReopensTheSame}
-use Rattle.pgstore.proofs.Founding.{whole_value}
 use Rattle.pgstore.proofs.Stores.{IsSettled}
 
 -- two databases with the same trees are one

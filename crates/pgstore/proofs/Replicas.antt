@@ -6,7 +6,7 @@ use Rattle.std.specs.Cmp.{unsigned_Decides}
 use Rattle.sqlite.specs.State.{HasCleanDisk, Survives}
 use Rattle.sqlite.specs.Store.{Ghosts}
 use Rattle.pgrows.specs.Rows.{state}
-use Rattle.pgstore.specs.Acts.{committed_of}
+use Rattle.pgencoded.specs.Acts.{committed_of}
 use Rattle.pgapply.specs.declared.rows.DumpRow.{DumpRow}
 use Rattle.pgapply.specs.declared.fault.StoreFault.{StoreFault}
 use Rattle.pgapply.specs.Value.{Tables}
@@ -14,7 +14,7 @@ use Rattle.pgapply.specs.Apply.{Change}
 use Rattle.pgapply.specs.Dump.{dump}
 use Rattle.pgapply.specs.Stored.{Stored}
 use Rattle.pgapply.specs.Taken as taken
-use Rattle.pgstore.specs.Spelled.{IsStored}
+use Rattle.pgencoded.specs.Spelled.{IsStored}
 use Rattle.pgstore.specs.Reopened.{Reopens}
 use Rattle.pgstore.specs.StoreValue.{Group, StoreValue, IsHonest, Serves, Holds, Contains, Plans}
 use Rattle.pgstore.specs.StoreValue.{Takes, Stays, RefusesWork, LeavesGroup, LeavesSynced}

@@ -1,14 +1,19 @@
 -- A connection whose trees are taken.
-use Rattle.std.proofs.Common.{◌≡◌, [], IsTrue, refl, ap, ◌∙◌, arith}
+use Rattle.std.proofs.Common.{◌≡◌, [], IsTrue, refl, sym, ap, subst, ◌∙◌, arith}
+use Rattle.std.specs.Ordering.{nat_cmp}
+use Rattle.std.specs.FinMap.{FinMap}
 use Rattle.sqlite.specs.Effect.{Database}
 use Rattle.sqlite.specs.Store.{Ghosts}
 use Rattle.sqlite.specs.Tree.{Trees}
 use Rattle.sqlite.specs.Held as connection
 use Rattle.sqlite.specs.Held.{Held}
-use Rattle.sqlite.specs.State.{Survives}
+use Rattle.sqlite.specs.State.{HasCleanDisk, Survives}
+use Rattle.pglogical.specs.declared.message.RelationDef.{RelationDef}
 use Rattle.pgtables.specs.Kept as connected
-use Rattle.pgtables.specs.Kept.{IsKept}
+use Rattle.pgtables.specs.Kept.{IsKept, tables_in}
 use Rattle.pgrows.specs.Rows.{IfServing, Shows, database, state}
+use Rattle.pgencoded.specs.Acts.{IsBegun}
+use Rattle.pgreshaping.specs.Known.{AreKnown, AreStored}
 use Rattle.pgstore.specs.Sources.{Begins}
 
 module _ {S : Type 0} (g : Ghosts S) (conn : Held S) (new : S) where
@@ -36,3 +41,18 @@ pub undone_begins : {S : Type 0} (g : Ghosts S) (old new : S)
 undone_begins g old new shows clean still =
     let it = shows clean still in
     (it.was_open, ap database it.now_is, ap database it.committed_is, it.unmarked)
+
+-- ---- what is committed
+
+module _ {S : Type 0} (g : Ghosts S) (old new : S) (begins : Begins g old new) where
+  -- the transaction has what is committed
+  pub begun_again : IfServing g new (IsBegun g new)
+  begun_again clean still = let it = begins clean still in it.1 ∙ sym it.2
+
+  -- where nothing was changed since the commit, what is known stays so
+  pub known_begun : (known : FinMap nat_cmp RelationDef) → Survives (state g old) (state g new) (λ _. ⊥) → IfServing g old (IsBegun g old)
+      → AreKnown g known old → AreKnown g known new
+  known_begun known survives settled are clean still =
+      let it = begins clean still in
+      let was : HasCleanDisk (state g old) = omega (arith, survives.clean, clean) in
+      subst (λ (d : Database). AreStored known (tables_in d.trees)) (settled was it.0 ∙ sym it.1) (are was it.0)

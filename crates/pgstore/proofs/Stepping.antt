@@ -19,17 +19,18 @@ use Rattle.pgapply.specs.Missing.{all_missing, with_miss, with_misses}
 use Rattle.pgapply.specs.Works.{change_value, change_values, defined_by}
 use Rattle.pgapply.proofs.Working.{values_append}
 use Rattle.pglogical.specs.Spelling.{IsDefinition}
-use Rattle.pgstore.specs.Spelled.{IsReadable, IsChanging, IsStored}
-use Rattle.pgstore.specs.Acts.{AreGiven, Changes, CountsFrom, Finds, FoldsOn, Goes, IfOpened}
-use Rattle.pgstore.specs.Acts.{MakesOf, Notes, Refuses, RefusesToFold, RefusesToGive, TellsMissing}
+use Rattle.pgencoded.specs.Spelled.{IsReadable, IsChanging, IsStored}
+use Rattle.pgencoded.specs.Acts.{AreGiven, Changes, CountsFrom, Finds, FoldsOn, Goes, IfOpened}
+use Rattle.pgencoded.specs.Acts.{MakesOf, Notes, Refuses, RefusesToFold, RefusesToGive}
+use Rattle.pgencoded.specs.Acts.{TellsMissing}
 use Rattle.pgstore.specs.Steps.{CountsAll, RefusesAll, StepsAll}
 use Rattle.pgledger.specs.declared.image.Image.{Image}
 use Rattle.pgledger.specs.Images.{images}
-use Rattle.pgstore.specs.Looks.{StaysOpen, Tells, TellsAll, TellsFrom, told_more}
+use Rattle.pgencoded.proofs.Going.{goes_then}
+use Rattle.pgencoded.proofs.Deciding.{fault_first}
+use Rattle.pgchanging.specs.Looks.{StaysOpen, Tells, TellsAll, TellsFrom, told_more}
+use Rattle.pgchanging.proofs.ToldImages.{told_one, told_then}
 use Rattle.pgstore.proofs.Counting.{counted_more, counted_one}
-use Rattle.pgstore.proofs.Telling.{told_one, told_then}
-use Rattle.pgstore.proofs.Going.{goes_then}
-use Rattle.pgstore.proofs.Deciding.{fault_first}
 use Rattle.pgstore.proofs.Applying.{applied, refused_first, refused_then, was_given, given_then}
 use Rattle.pgstore.proofs.Applying.{fold_one, fold_append}
 

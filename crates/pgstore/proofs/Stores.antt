@@ -1,12 +1,8 @@
 -- What a store contains, when it is made and when a commit is taken.
-use Rattle.std.proofs.Common.{◌≡◌, ◌≤◌, ◌<◌, ◌^◌, inl, inr, ℕ, false, List, [], ◌∷◌, Ok, IsTrue}
+use Rattle.std.proofs.Common.{◌≡◌, ◌≤◌, ◌<◌, ◌^◌, inl, inr, ℕ, false, List, Ok, IsTrue}
 use Rattle.std.proofs.Common.{refl, sym, ap, subst, ◌∙◌, arith}
-use Rattle.std.specs.Prelude.{option_map}
 use Rattle.std.specs.Int.{w64, to_be_bytes}
-use Rattle.std.specs.Ordering.{nat_cmp}
-use Rattle.std.specs.Cmp.Lexicographic.{slice_cmp}
 use Rattle.std.specs.FinMap as map
-use Rattle.std.specs.FinMap.{get-empty}
 use Rattle.sqlite.specs.Tree.{Trees}
 use Rattle.sqlite.specs.Effect.{Database}
 use Rattle.sqlite.specs.Store.{Ghosts}
@@ -22,17 +18,16 @@ use Rattle.pgtables.specs.Kept.{tables_in}
 use Rattle.pgrows.specs.Rows.{IfServing, database, state}
 use Rattle.pgapply.specs.declared.op.Op.{Op}
 use Rattle.pgapply.specs.declared.fault.StoreFault.{StoreFault}
-use Rattle.pgapply.specs.Value.{Table}
 use Rattle.pgapply.specs.Works.{change_values}
 use Rattle.pgapply.specs.Apply.{Change, fold_changes}
 use Rattle.pgapply.specs.Stored.{Stored, IsFault}
 use Rattle.pgapply.specs.Tallies.{nothing_taken}
-use Rattle.pgstore.specs.Spelled.{IsStored, spelled_definition, spelled_row, row_in}
-use Rattle.pgstore.specs.Acts.{HasTaken, LeavesTaken, RefusesToFold, committed_of}
-use Rattle.pgstore.specs.StoreValue.{AreOf, Group, IsAtLeast, Keeps, IsStore, HasMade, Serves}
+use Rattle.pgencoded.specs.Spelled.{IsStored}
+use Rattle.pgencoded.specs.Acts.{HasTaken, LeavesTaken, RefusesToFold, committed_of}
+use Rattle.pgencoded.specs.DatabaseValue.{AreOf, HasMade, nothing_stored}
+use Rattle.pgadopt.proofs.Beginning.{no_value}
+use Rattle.pgstore.specs.StoreValue.{Group, IsAtLeast, Keeps, IsStore, Serves}
 use Rattle.pgstore.specs.StoreValue.{Holds, Contains, Takes, Stays, RefusesWork, LeavesWork}
-use Rattle.pgstore.specs.StoreValue.{nothing_stored}
-use Rattle.pgapply.proofs.KeepsForm.{none_keeps}
 
 -- nothing is staged, and nothing was taken
 abbrev pub at_rest : Group
@@ -134,18 +129,6 @@ adopted_survives g old new P s =
     record { clean = s.clean; shield = s.shield; counts = s.counts; limit = refl; closes = s.closes; crash = s.crash }
 
 -- ---- a new store
-
-pub no_value : IsStored map.empty stored.no_tables
-no_value = record {
-  spelled = record {
-    defined = λ oid. get-empty nat_cmp oid ∙ sym (ap (option_map (λ (t : Table). spelled_definition t.definition)) (get-empty nat_cmp oid));
-    rows = λ oid place. get-empty (slice_cmp nat_cmp) (oid ∷ place)
-        ∙ sym (ap (λ o. option_map spelled_row (row_in o place)) (get-empty nat_cmp oid));
-    keyed = get-empty (slice_cmp nat_cmp) [];
-  };
-  form = none_keeps;
-  spellable = λ oid table there. absurd (let none = sym (get-empty nat_cmp oid) ∙ there in cc);
-}
 
 module _ {S : Type 0} (g : Ghosts S) (conn : Held S) (made : HasCleanDisk (connection.state g conn) → HasMade g conn)
     (even : IsTrue (connection.state g conn).is_open → (connection.state g conn).now ≡ (connection.state g conn).committed) where

@@ -20,26 +20,25 @@ use Rattle.sqlite.specs.Store.{Ghosts}
 use Rattle.sqlite.specs.Tree.{Trees}
 use Rattle.sqlite.specs.View.{View, IsClean}
 use Rattle.sqlite_trees.specs.Objects.{catalog_tree}
-use Rattle.sqlite_sql.specs.Catalog.{IsIndexOf}
 use Rattle.pgmemory.proofs.Unused.{schema_is_empty}
 use Rattle.pgtables.specs.Schema.{store_schema}
 use Rattle.pgtables.specs.Kept as stored
-use Rattle.pgtables.specs.Kept.{AreHeld, IsKept, pos_row, tables_in}
-use Rattle.pgtables.specs.Opened.{AreAccepted}
+use Rattle.pgtables.specs.Kept.{IsKept, pos_row, tables_in}
 use Rattle.pgtables.specs.Remains.{remaining}
 use Rattle.pgopening.specs.Found.{AreOpened, StillHolds}
-use Rattle.pgverify.specs.Verified.{ListsStore}
 use Rattle.pgverify.proofs.Sound as sound
-use Rattle.pgstore.specs.Adopted.{Definitions, IsKnownRow}
+use Rattle.pgadopt.specs.Adopted.{Definitions}
 use Rattle.pgrows.specs.Rows.{database, state}
 use Rattle.pgrows.proofs.Found.{open_of}
 use Rattle.pgapply.specs.Stored.{Stored}
-use Rattle.pgstore.specs.Acts.{committed_of}
+use Rattle.pgencoded.specs.Acts.{committed_of}
+use Rattle.pgencoded.specs.Spelled.{IsStored}
+use Rattle.pgencoded.specs.DatabaseValue.{AreOf, IsPlaceOf, IsValueOf}
+use Rattle.pgadopt.specs.Outlined.{AreOutlined, AreStore, all_there}
+use Rattle.pgadopt.proofs.Founding.{read_stored, read_value, same_left, same_position, whole_value}
 use Rattle.pgstore.specs.Reopened.{AreAsLeft, HoldsContent, StaysAsFound}
-use Rattle.pgstore.specs.Spelled.{IsStored}
-use Rattle.pgstore.specs.StoreValue.{AreOf, Group, IsPlaceOf, IsStore, IsValueOf, StoreValue}
-use Rattle.pgstore.specs.Trees.{AreOutlined, AreStore, HaveValue, IsJustOpened, all_there}
-use Rattle.pgstore.proofs.Founding.{read_stored, read_value, same_left, same_position, whole_value}
+use Rattle.pgstore.specs.StoreValue.{Group, IsStore, StoreValue}
+use Rattle.pgstore.specs.Trees.{HaveValue, IsJustOpened}
 use Rattle.pgstore.proofs.Reopened.{same_database}
 use Rattle.pgstore.proofs.Stores.{IsSettled, crash_leaves, open_keeps}
 
@@ -47,10 +46,6 @@ use Rattle.pgstore.proofs.Stores.{IsSettled, crash_leaves, open_keeps}
 pub fresh_still : (old new : View) → OnlyReads old new → IsFresh old → IsFresh new
 fresh_still old new same fresh =
     subst IsFresh (sym same) (record { sound = fresh.sound; numbered = fresh.numbered; clean = fresh.clean; unmarked = fresh.unmarked })
-
--- and listed as they were
-pub lists_still : (old new : View) → OnlyReads old new → ListsStore old → ListsStore new
-lists_still old new same lists = subst ListsStore (sym same) (record { unbroken = lists.unbroken; lists = lists.lists })
 
 -- trees that list the tables of a store aren't empty
 listed_not_empty : (db : Trees) → IsDatabase (database db) → db catalog_tree ≡ [] → {A : Type 0} → A
@@ -150,28 +145,6 @@ module _ {S : Type 0} (g : Ghosts S) (s : S) (position : ℕ) (range : position 
               (whole_value now it.0 refl it.1),
         );
       }
-
--- the rows were read after the definitions and the position
-pub trees_read : (before : View) (after : Trees) → after ≡ before.trees → (known : Definitions) (position : ℕ)
-    → AreOutlined before known position → AreHeld (after 1) → AreAccepted IsKnownRow known (tables_in after)
-    → IsIndexOf (1 ∷ 2 ∷ []) (after 1) (after 2) → AreStore before.trees position
-trees_read before after same known position it held rows indexed =
-    let held_is = subst (λ (t : Trees). AreHeld (t 1)) same held in
-    record {
-      definitions = it.definitions;
-      read = record {
-        known = known;
-        are = it.are;
-        defined = it.defined;
-        lists = it.lists;
-        held = held_is;
-        rows = subst (λ (t : Trees). AreAccepted IsKnownRow known (tables_in t)) same rows;
-        place = (it.place, it.range);
-        bare = λ e. absurd cc;
-      };
-      kept = sound.kept before.trees (to_be_bytes w64 position) it.defined held_is it.place it.listed.lists
-          (subst (λ (t : Trees). IsIndexOf (1 ∷ 2 ∷ []) (t 1) (t 2)) same indexed);
-    }
 
 -- a connection over the trees finds what they were opened of
 pub over_finds : {S : Type 0} (g : Ghosts S) (opened : S) (conn : Held S) (content : Image)

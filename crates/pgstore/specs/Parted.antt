@@ -18,8 +18,8 @@ use Rattle.pgledger.specs.Entries.{Entry}
 use Rattle.pgledger.specs.Images.{Line, images, lines}
 use Rattle.pgledger.specs.Ledgers.{Keeps, Rests}
 use Rattle.pgledger.specs.Drafts.{AddsLines}
-use Rattle.pgstore.specs.Spelled.{IsStored}
-use Rattle.pgstore.specs.Acts.{CountsFrom, GoesOpen}
+use Rattle.pgencoded.specs.Spelled.{IsStored}
+use Rattle.pgencoded.specs.Acts.{CountsFrom, GoesOpen}
 use Rattle.pgstore.specs.Staged.{before_of, HasStaged, Stages}
 
 -- the changes were folded

@@ -26,8 +26,8 @@ use Rattle.pgmemory.specs.Stopped.{Leaves}
 use Rattle.pgtables.specs.Kept as connected
 use Rattle.pgrows.specs.Rows.{state}
 use Rattle.pgapply.specs.Stored.{Stored}
-use Rattle.pgstore.specs.StoreValue.{StoreValue, Adopts, AreOf, Contains, Holds, IsValueOf, Keeps}
-use Rattle.pgstore.specs.StoreValue.{Serves, nothing_stored}
+use Rattle.pgencoded.specs.DatabaseValue.{AreOf, IsValueOf, nothing_stored}
+use Rattle.pgstore.specs.StoreValue.{StoreValue, Adopts, Contains, Holds, Keeps, Serves}
 
 -- There is no database in files with this content, or one without any table: none was made yet, or
 -- an empty one.

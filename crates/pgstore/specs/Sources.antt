@@ -5,8 +5,8 @@ use Rattle.sqlite.specs.Held as connection
 use Rattle.pgtables.specs.Kept as connected
 use Rattle.pgtables.specs.Kept.{IsKept}
 use Rattle.pgrows.specs.Rows.{IfServing, IsNumbered, state}
-use Rattle.pgstore.specs.Acts.{IsBegun}
-use Rattle.pgstore.specs.Known.{AreKnown}
+use Rattle.pgencoded.specs.Acts.{IsBegun}
+use Rattle.pgreshaping.specs.Known.{AreKnown}
 use Rattle.pgstore.specs.declared.source.Source.{Source}
 use Rattle.pgstore.specs.declared.source.Source.TheVariants.{Adopted, Trees}
 

@@ -12,8 +12,8 @@ use Rattle.pgapply.specs.declared.op.Op.{Op}
 use Rattle.pgapply.specs.Value.{Tables}
 use Rattle.pgapply.specs.Works.{change_values}
 use Rattle.pgapply.specs.Apply.{fold_changes}
-use Rattle.pgstore.specs.Acts.{committed_of}
-use Rattle.pgstore.specs.Spelled.{IsStored}
+use Rattle.pgencoded.specs.Acts.{committed_of}
+use Rattle.pgencoded.specs.Spelled.{IsStored}
 
 -- the transaction is as it was at the newest savepoint, which is dropped
 abbrev pub Returns : State → State → Type 0

@@ -11,8 +11,8 @@ use Rattle.pgapply.specs.Stored.{IsFault}
 use Rattle.pgapply.specs.Works.{change_values}
 use Rattle.pgapply.specs.Apply.{fold_changes}
 use Rattle.pgapply.specs.Missing.{all_missing, with_misses}
-use Rattle.pgstore.specs.Spelled.{IsStored}
-use Rattle.pgstore.specs.Acts.{GoesOpen, AreGiven}
+use Rattle.pgencoded.specs.Spelled.{IsStored}
+use Rattle.pgencoded.specs.Acts.{GoesOpen, AreGiven}
 
 -- several changes, from what was given on
 abbrev pub StepsAll : {S : Type 0} → Ghosts S → S → S → List RelationDef → (ℕ → Option ℕ) → List (ℕ × Op) → (ℕ → Option ℕ) → Type 0

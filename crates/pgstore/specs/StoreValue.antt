@@ -1,31 +1,28 @@
 -- What a caller sees of a store, and what holds of each.
-use Rattle.std.specs.Prelude.{◌≡◌, ◌<◌, ◌≤◌, ◌^◌, ◌⊎◌, ℕ, Bool, true, false, not, ◌&&◌}
-use Rattle.std.specs.Prelude.{if◌then◌else◌, ◌==◌, List, [], ◌∷◌, IsTrue, Ok}
+use Rattle.std.specs.Prelude.{◌≡◌, ◌<◌, ◌≤◌, ◌^◌, ℕ, Bool, true, false, not, ◌&&◌}
+use Rattle.std.specs.Prelude.{if◌then◌else◌, ◌==◌, List, IsTrue, Ok}
 use Rattle.std.specs.Prelude.{refl}
 use Rattle.std.specs.Coded.{Coded, code_by, coded×, coded_bool, coded_option, coded_ℕ}
 use Rattle.std.specs.Int.{w64, to_be_bytes}
-use Rattle.std.specs.FinMap as map
 use Rattle.sqlite.specs.Tree.{Trees}
-use Rattle.sqlite.specs.Effect.{Database}
 use Rattle.sqlite.specs.Store.{Ghosts}
 use Rattle.sqlite.specs.Held as connection
 use Rattle.sqlite.specs.Held.{Held}
 use Rattle.sqlite.specs.State.{HasCleanDisk, State}
 use Rattle.pgtables.specs.Schema.{no_schema}
 use Rattle.pgtables.specs.Kept as stored
-use Rattle.pgtables.specs.Kept.{AreDefined, AreHeld, IsKept, pos_row, tables_in}
-use Rattle.pgrows.specs.Rows.{IfServing, database, state, tables_of}
-use Rattle.pgtables.specs.declared.remains.Remains.{Remains}
-use Rattle.pgtables.specs.Remains.{remaining, schema_of}
+use Rattle.pgtables.specs.Kept.{IsKept}
+use Rattle.pgrows.specs.Rows.{IfServing, state, tables_of}
 use Rattle.pgapply.specs.declared.fault.StoreFault.{StoreFault}
 use Rattle.pgapply.specs.Value.{Tables}
 use Rattle.pgapply.specs.Apply.{Change, fold_changes}
 use Rattle.pgapply.specs.Stored.{Stored, IsFault}
 use Rattle.pgapply.specs.Tallies.{Tally, nothing_taken}
-use Rattle.pgstore.specs.Acts.{committed_of}
+use Rattle.pgencoded.specs.Acts.{committed_of}
+use Rattle.pgencoded.specs.Spelled.{IsStored}
+use Rattle.pgencoded.specs.DatabaseValue.{AreOf, IsValueOf, nothing_stored}
 use Rattle.pgstore.specs.Codes.{tally_code}
 use Rattle.pgstore.specs.Staged.{before_of}
-use Rattle.pgstore.specs.Spelled.{IsStored}
 
 -- the commits that are staged behind the last one that was taken
 pub record Group : Type 0 where
@@ -79,37 +76,10 @@ store_code {S} store =
     code_by (S × (ℕ × Group)) (coded× store (coded× coded_ℕ group_code)) (λ s. (s.rows, (s.position, s.group)))
     (λ p. record { rows = p.0; position = p.1.0; group = p.1.1 }) (λ _. refl)
 
--- trees that have these tables and this position
-pub record AreOf (v : Stored) (db : Trees) : Type 0 where
-  pub kept : IsKept (database db)
-  pub stored : IsStored v.tables (tables_in db)
-  pub position : (tables_in db).place ≡ to_be_bytes w64 v.position
-  pub range : v.position < 2 ^ 64
-
 -- trees at least as far as these tables: at a position that is no smaller, and with these very
 -- tables where it is the same
 abbrev pub IsAtLeast : Stored → Trees → Type 0
 IsAtLeast v db = (w : Stored) × AreOf w db × (v.position ≤ w.position) × (w.position ≡ v.position → AreOf v db)
-
--- no tables, at 0/0
-abbrev pub nothing_stored : Stored
-nothing_stored = record { tables = map.empty; position = 0 }
-
--- the row of `pos` has this position, and without a row it is 0/0 where there is no definition
--- either
-abbrev pub IsPlaceOf : ℕ → Trees → Type 0
-IsPlaceOf position db = (db 3 ≡ pos_row (to_be_bytes w64 position) ∷ []) ⊎ ((db 3 ≡ []) × (db 0 ≡ []) × (position ≡ 0))
-
--- a database that has the tables of a store, or some of them, holds these tables at this position:
--- a table that was dropped counts as empty
-pub record IsValueOf (v : Stored) (db : Database) : Type 0 where
-  pub left : Remains
-  pub schema : db.schema ≡ schema_of left
-  pub defined : AreDefined (remaining left db.trees 0)
-  pub held : AreHeld (remaining left db.trees 1)
-  pub stored : IsStored v.tables (tables_in (remaining left db.trees))
-  pub place : IsPlaceOf v.position (remaining left db.trees)
-  pub range : v.position < 2 ^ 64
 
 module _ {S : Type 0} (g : Ghosts S) where
   -- the disk has returned what was written, so far
@@ -169,12 +139,6 @@ module _ {S : Type 0} (g : Ghosts S) where
   abbrev pub Plans : StoreValue S → Tables → Type 0
   Plans s tables = s.group.is_lost ≡ false → IsStored tables (before_of g (s.group.reach == s.position) s.rows)
 
-  -- the tables were made, empty, with position 0/0
-  pub record HasMade (conn : Held S) : Type 0 where
-    pub is_open : IsTrue (connection.state g conn).is_open
-    pub kept : IsKept (connection.state g conn).now
-    pub none : stored.tables_of g conn ≡ stored.no_tables
-
   -- the changes were folded over the tables, with this position
   pub record Takes (old new : StoreValue S) (changes : List Change) (end : ℕ) : Type 0 where
     pub served : Serves old
@@ -220,7 +184,3 @@ module _ {S : Type 0} (g : Ghosts S) where
   -- what the store shows, with the limit of steps that the connection had
   abbrev pub shown_by : Held S → StoreValue S → State
   shown_by conn s = record (state g s.rows) { step_limit = (connection.state g conn).step_limit }
-
-  -- what a crash may leave of adopting a connection: a store that holds what the connection held
-  abbrev pub LeavesAdopted : Held S → Trees → Type 0
-  LeavesAdopted conn db = (v : Stored) × IsValueOf v (connection.state g conn).now × AreOf v db

@@ -15,9 +15,9 @@ ghost use Rattle.pgstore.specs.StoreValue.{begun_at, IsHonest, Serves};
 ghost use Rattle.pgstore.specs.Reopened.{HoldsContent, IsAsLeft, IsCopiedTo, ReopensLeft};
 ghost use Rattle.pgstore.specs.Reopened.{StaysAsFound};
 
-use crate::fault::Refusal;
 use crate::store::Store;
 use pgapply::StoreFault;
+use pgencoded::Refusal;
 use pgopening::Found;
 use sqlite::{Connection, FileStore, Files, Options};
 use sqlite_disk::Disk;

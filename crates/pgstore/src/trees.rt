@@ -4,104 +4,20 @@
 //! in memory. So a store that is whole is read below SQL, one row at a time, and only what isn't
 //! one gets a connection.
 
-ghost use Rattle.std.specs.Prelude.{◌≡◌, ◌⊎◌, true, false, is_some, IfOk, IfErr, IfSome, OnOk};
-ghost use Rattle.sqlite.specs.ExecCalls.{OnlyReads};
-ghost use Rattle.sqlite.specs.View.{IsClean, IsQuiet};
+ghost use Rattle.std.specs.Prelude.{◌≡◌, ◌⊎◌, true, is_some, IfOk, IfErr, IfSome};
+ghost use Rattle.sqlite.specs.View.{IsClean};
 ghost use Rattle.pgapply.specs.Stored.{IsOwnFault};
 ghost use Rattle.pgstore.specs.StoreValue.{begun_at, IsHonest, Serves};
-ghost use Rattle.pgstore.specs.Adopted.{Definitions};
 ghost use Rattle.pgstore.specs.Reopened.{AreAsLeft};
-ghost use Rattle.pgstore.specs.Trees.{AreOutlined, AreStore, HaveValue, HoldsOpened};
-ghost use Rattle.pgstore.specs.Trees.{IsJustOpened, StaysOpened};
+ghost use Rattle.pgstore.specs.Trees.{HaveValue, HoldsOpened, IsJustOpened, StaysOpened};
 
-use crate::adopting::{KnownRows, read_book};
-use crate::fault::Refusal;
 use crate::store::Store;
+use pgadopt::{read_store, read_trusted};
 use pgapply::StoreFault;
+use pgencoded::Refusal;
 use pglsn::Lsn;
-use pgrel::Book;
-use pgverify::{check_rows, lists_store, read_definitions, read_position};
 use sqlite::{Alter, Connection};
 use std::alloc::Global;
-
-/// What is read of a store before its rows: its definitions, and its position.
-#[derive(Drop)]
-pub(crate) struct Outline {
-    pub(crate) definitions: Book,
-    pub(crate) position: Lsn,
-}
-
-/// The definitions and the position of the store in the trees, or `None` where they aren't listed
-/// as the tables of one, or don't hold these. No row is read. Nothing changes.
-fn read_outline<S: Alter>(store: &mut S, alloc: Global) -> Result<Option<Outline>, Refusal>
-    ensures found { IsClean (S.Store.view store.new) → IfOk result (λ found. IfSome found
-        (λ it. AreOutlined (S.Store.view store.old) it.definitions it.position)) }
-    ensures same { OnOk result (IsClean (S.Store.view store.new) →
-        OnlyReads (S.Store.view store.old) (S.Store.view store.new)) }
-    ensures quiet { IsQuiet S.Store.view S.Store.faults S.Store.recovers S.Store.is_shielded
-        store.old store.new }
-    ensures err { IfErr result IsOwnFault }
-{
-    if !lists_store(store, alloc)? {
-        return Ok(None);
-    }
-    let Some(found) = read_definitions(store, alloc)? else {
-        return Ok(None);
-    };
-    let Ok(definitions) = read_book(alloc, found.as_slice()) else {
-        return Ok(None);
-    };
-    let Some(position) = read_position(store, alloc)? else {
-        return Ok(None);
-    };
-    Ok(Some(Outline {
-        definitions,
-        position: Lsn(position),
-    }))
-}
-
-/// The position of the store in the trees, or `None` where they aren't those of a whole one. Each
-/// row is read once and checked, in memory for the definitions and one row. Nothing changes.
-pub(crate) fn read_store<S: Alter>(store: &mut S, alloc: Global) -> Result<Option<Lsn>, Refusal>
-    ensures found { IsClean (S.Store.view store.new) → IfOk result (λ found. IfSome found
-        (λ position. ((S.Store.view store.old).is_broken ≡ false)
-        × AreStore (S.Store.view store.old).trees position)) }
-    ensures same { OnOk result (IsClean (S.Store.view store.new) →
-        OnlyReads (S.Store.view store.old) (S.Store.view store.new)) }
-    ensures quiet { IsQuiet S.Store.view S.Store.faults S.Store.recovers S.Store.is_shielded
-        store.old store.new }
-    ensures err { IfErr result IsOwnFault }
-{
-    let Some(outline) = read_outline(store, alloc)? else {
-        return Ok(None);
-    };
-    let rows = KnownRows {
-        alloc,
-        definitions: &outline.definitions,
-    };
-    if !check_rows(store, alloc, &rows)? {
-        return Ok(None);
-    }
-    Ok(Some(outline.position))
-}
-
-/// The position of the store in the trees, or `None` where they aren't listed as the tables of one
-/// or its definitions or its position don't decode. No row is read. Nothing changes.
-pub(crate) fn read_trusted<S: Alter>(store: &mut S, alloc: Global) -> Result<Option<Lsn>, Refusal>
-    ensures found { IsClean (S.Store.view store.new) → IfOk result (λ found. IfSome found
-        (λ position. (known : Definitions)
-        × AreOutlined (S.Store.view store.old) known position)) }
-    ensures same { OnOk result (IsClean (S.Store.view store.new) →
-        OnlyReads (S.Store.view store.old) (S.Store.view store.new)) }
-    ensures quiet { IsQuiet S.Store.view S.Store.faults S.Store.recovers S.Store.is_shielded
-        store.old store.new }
-    ensures err { IfErr result IsOwnFault }
-{
-    let Some(outline) = read_outline(store, alloc)? else {
-        return Ok(None);
-    };
-    Ok(Some(outline.position))
-}
 
 impl<S: Alter + Drop> Store<S> {
     /// The store in a database, as `adopt` takes it: the SQL library reads and checks its rows,

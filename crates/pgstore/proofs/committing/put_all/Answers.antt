@@ -1,8 +1,8 @@
 use Rattle.std.proofs.Common.{ap, subst, ◌∙◌, arith}
 use Rattle.std.specs.Int.{w64, to_be_bytes}
-use Rattle.pgstore.specs.Acts.{Places}
+use Rattle.pgencoded.specs.Acts.{Places}
+use Rattle.pgreshaping.proofs.Remembering.{none_known}
 use Rattle.pgstore.proofs.Committed.{places}
-use Rattle.pgstore.proofs.Remembering.{none_known}
 use Rattle.pgstore.proofs.committing.put_all.Goals as goal
 
 pub returns-clause-made : goal.returns-clause-made

@@ -3,8 +3,8 @@ use Rattle.sqlite.specs.State.{HasCleanDisk}
 use Rattle.pgrows.specs.Rows.{state}
 use Rattle.sqlite.specs.Effect.{Database}
 use Rattle.pgtables.specs.Kept.{tables_in}
-use Rattle.pgstore.specs.Spelled.{IsStored}
-use Rattle.pgstore.proofs.Remembering.{none_known}
+use Rattle.pgencoded.specs.Spelled.{IsStored}
+use Rattle.pgreshaping.proofs.Remembering.{none_known}
 use Rattle.pgstore.proofs.dumping.give_rows.Goals as goal
 
 pub returns-in-Trees-clause-formed : goal.returns-in-Trees-clause-formed

@@ -2,10 +2,10 @@ use Rattle.std.proofs.Common.{sym, subst, arith}
 use Rattle.sqlite.specs.State.{HasCleanDisk}
 use Rattle.pgtables.specs.Kept as stored
 use Rattle.pgrows.specs.Rows.{state}
+use Rattle.pgencoded.specs.Spelled.{IsStored}
+use Rattle.pgencoded.specs.Acts.{CountsFrom}
+use Rattle.pgencoded.proofs.Acting.{on_ok}
 use Rattle.pgstore.specs.Parted.{AddsImages}
-use Rattle.pgstore.specs.Spelled.{IsStored}
-use Rattle.pgstore.specs.Acts.{CountsFrom}
-use Rattle.pgstore.proofs.Acting.{on_ok}
 use Rattle.pgstore.proofs.parting.stage_parts_all.Goals as goal
 
 pub stage_parts_changes-requires-clause-stored : goal.stage_parts_changes-requires-clause-stored

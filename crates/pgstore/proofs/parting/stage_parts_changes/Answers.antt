@@ -3,10 +3,10 @@ use Rattle.sqlite.specs.Effect.{Database}
 use Rattle.sqlite.specs.State.{HasCleanDisk}
 use Rattle.pgtables.specs.Kept.{tables_in}
 use Rattle.pgrows.specs.Rows.{state}
+use Rattle.pgencoded.specs.Spelled.{IsStored}
+use Rattle.pgreshaping.proofs.Remembering.{none_known}
 use Rattle.pgstore.specs.Parted.{AddsImages}
-use Rattle.pgstore.specs.Spelled.{IsStored}
 use Rattle.pgstore.proofs.Parted.{stages_parts}
-use Rattle.pgstore.proofs.Remembering.{none_known}
 use Rattle.pgstore.proofs.parting.stage_parts_changes.Goals as goal
 
 pub returns-in-Err-clause-knows : goal.returns-in-Err-clause-knows

@@ -1,9 +1,9 @@
 use Rattle.std.proofs.Common.{◌∙◌, ap}
 use Rattle.pgapply.specs.Works.{change_values}
 use Rattle.pgledger.specs.Images.{images}
-use Rattle.pgstore.specs.Looks.{begun_telling, told_more}
+use Rattle.pgchanging.specs.Looks.{begun_telling, told_more}
+use Rattle.pgchanging.proofs.ToldImages.{told_adds}
 use Rattle.pgstore.proofs.Parted.{takes_part}
-use Rattle.pgstore.proofs.Telling.{told_adds}
 use Rattle.pgstore.proofs.parting.take_part.Goals as goal
 
 pub returns-clause-made : goal.returns-clause-made

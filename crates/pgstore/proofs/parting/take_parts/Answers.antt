@@ -2,8 +2,8 @@ use Rattle.std.proofs.Common.{arith}
 use Rattle.std.proofs.lemmas.Result.{err_from_is_err_and}
 use Rattle.sqlite.specs.State.{HasCleanDisk}
 use Rattle.pgrows.specs.Rows.{state}
+use Rattle.pgencoded.proofs.Going.{goes_none, goes_then}
 use Rattle.pgstore.proofs.Drafting.{adds_all, adds_more, adds_none, drafts_same, drafts_then}
-use Rattle.pgstore.proofs.Going.{goes_none, goes_then}
 use Rattle.pgstore.proofs.Parted.{parts_refuse, takes_more, takes_none}
 use Rattle.pgstore.proofs.parting.take_parts.Goals as goal
 

@@ -1,7 +1,7 @@
 use Rattle.pgledger.specs.Drafts.{HasDraft}
 use Rattle.pgrows.specs.Rows.{tables_of}
-use Rattle.pgstore.specs.Acts.{Goes, IfOpened}
-use Rattle.pgstore.specs.Known.{AreStored}
+use Rattle.pgencoded.specs.Acts.{Goes, IfOpened}
+use Rattle.pgreshaping.specs.Known.{AreStored}
 use Rattle.pgstore.specs.Parted.{AddsParts, OnlyDrafts, TakesParts}
 use Rattle.pgstore.proofs.parting.take_parts.Given as goal
 

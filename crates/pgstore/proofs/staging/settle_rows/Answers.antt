@@ -4,7 +4,7 @@ use Rattle.sqlite.specs.State.{HasCleanDisk}
 use Rattle.pgtables.specs.Kept as stored
 use Rattle.pgtables.specs.Kept.{tables_in}
 use Rattle.pgrows.specs.Rows.{database, state}
-use Rattle.pgstore.proofs.Remembering.{none_known}
+use Rattle.pgreshaping.proofs.Remembering.{none_known}
 use Rattle.pgstore.proofs.staging.settle_rows.Goals as goal
 
 pub returns-clause-knows : goal.returns-clause-knows

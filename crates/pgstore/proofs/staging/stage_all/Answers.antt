@@ -2,10 +2,10 @@ use Rattle.std.proofs.Common.{sym, subst, arith}
 use Rattle.sqlite.specs.State.{HasCleanDisk}
 use Rattle.pgtables.specs.Kept as stored
 use Rattle.pgrows.specs.Rows.{state}
-use Rattle.pgstore.specs.Spelled.{IsStored}
-use Rattle.pgstore.specs.Acts.{CountsFrom, RefusesToFold}
-use Rattle.pgstore.specs.Looks.{TellsFrom}
-use Rattle.pgstore.proofs.Acting.{if_err, on_ok}
+use Rattle.pgencoded.specs.Spelled.{IsStored}
+use Rattle.pgencoded.specs.Acts.{CountsFrom, RefusesToFold}
+use Rattle.pgencoded.proofs.Acting.{if_err, on_ok}
+use Rattle.pgchanging.specs.Looks.{TellsFrom}
 use Rattle.pgstore.proofs.staging.stage_all.Goals as goal
 
 pub returns-in-Trees-clause-staged : goal.returns-in-Trees-clause-staged

@@ -3,10 +3,10 @@ use Rattle.sqlite.specs.Effect.{Database}
 use Rattle.sqlite.specs.State.{HasCleanDisk}
 use Rattle.pgtables.specs.Kept.{tables_in}
 use Rattle.pgrows.specs.Rows.{state}
-use Rattle.pgstore.specs.Known.{AreStored}
-use Rattle.pgstore.specs.Spelled.{IsStored}
+use Rattle.pgencoded.specs.Spelled.{IsStored}
+use Rattle.pgreshaping.specs.Known.{AreStored}
+use Rattle.pgreshaping.proofs.Remembering.{none_known}
 use Rattle.pgstore.proofs.Behind.{stages, unstages}
-use Rattle.pgstore.proofs.Remembering.{none_known}
 use Rattle.pgstore.proofs.staging.stage_changes.Goals as goal
 
 pub returns-in-Err-take_changes-clause-unstaged : goal.returns-in-Err-take_changes-clause-unstaged

@@ -3,8 +3,8 @@ use Rattle.pgapply.specs.Works.{change_values}
 use Rattle.pgledger.specs.Images.{images}
 use Rattle.pgledger.specs.Entries.{entry_of, messages_of}
 use Rattle.pgledger.proofs.Calls.{rests_same}
-use Rattle.pgstore.specs.Looks.{begun_telling, told_more}
-use Rattle.pgstore.proofs.Telling.{told_appends}
+use Rattle.pgchanging.specs.Looks.{begun_telling, told_more}
+use Rattle.pgchanging.proofs.ToldImages.{told_appends}
 use Rattle.pgstore.proofs.staging.stage_told.Goals as goal
 
 pub returns-in-Ok-clause-told : goal.returns-in-Ok-clause-told

@@ -1,9 +1,9 @@
 use Rattle.std.proofs.Common.{sym, ◌∙◌, arith}
 use Rattle.sqlite.specs.State.{HasCleanDisk}
 use Rattle.pgrows.specs.Rows.{state, tables_of}
+use Rattle.pgreshaping.proofs.Definitions.{found_same, given_before}
+use Rattle.pgreshaping.proofs.Remembering.{noted_stored}
 use Rattle.pgstore.proofs.Applying.{found_given}
-use Rattle.pgstore.proofs.Definitions.{found_same, given_before}
-use Rattle.pgstore.proofs.Remembering.{noted_stored}
 use Rattle.pgstore.proofs.taking.give_once.Goals as goal
 
 pub returns-then-is_last-clause-made : goal.returns-then-is_last-clause-made

@@ -1,6 +1,7 @@
 use Rattle.std.proofs.Common.{sym, subst, ap, ◌∙◌}
 use Rattle.sqlite.specs.Files.{over_files}
-use Rattle.pgstore.specs.StoreValue.{Holds, Serves, nothing_stored}
+use Rattle.pgstore.specs.StoreValue.{Holds, Serves}
+use Rattle.pgencoded.specs.DatabaseValue.{nothing_stored}
 use Rattle.pgsub_core.specs.Subscriber.Subscribed.{newly}
 use Rattle.pgembed.specs.Fed.{position_of}
 use Rattle.pgembed.proofs.embedded.InMemory.new.Goals as goal

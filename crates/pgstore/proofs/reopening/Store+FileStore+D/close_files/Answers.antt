@@ -9,8 +9,8 @@ use Rattle.sqlite.specs.Held.{AreDatabases}
 use Rattle.sqlite.specs.Recovery.{Image}
 use Rattle.sqlite.specs.WalFiles.{outcomes}
 use Rattle.pgrows.specs.Rows.{state}
+use Rattle.pgencoded.proofs.Formed.{own_of_tree}
 use Rattle.pgstore.proofs.Closed.{closed_alone, closed_clean, closed_leaves}
-use Rattle.pgstore.proofs.Formed.{own_of_tree}
 use Rattle.pgstore.proofs.reopening.Store+FileStore+D.close_files.Goals as goal
 
 pub returns-in-Ok-clause-left : goal.returns-in-Ok-clause-left

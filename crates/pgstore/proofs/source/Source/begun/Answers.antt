@@ -1,4 +1,5 @@
-use Rattle.pgstore.proofs.Remembering.{begun_again, known_begun, none_known}
+use Rattle.pgreshaping.proofs.Remembering.{none_known}
+use Rattle.pgstore.proofs.Sourced.{begun_again, known_begun}
 use Rattle.pgstore.proofs.source.Source.begun.Goals as goal
 
 pub returns-in-Trees-default-default-true-clause-source : goal.returns-in-Trees-default-default-true-clause-source

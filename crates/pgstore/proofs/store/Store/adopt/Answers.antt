@@ -1,6 +1,6 @@
 use Rattle.std.proofs.Common.{◌<◌, ◌^◌, sym, subst, arith}
-use Rattle.pgstore.specs.Spelled.{IsStored}
-use Rattle.pgstore.proofs.Founding.{founded_as, founded_store}
+use Rattle.pgencoded.specs.Spelled.{IsStored}
+use Rattle.pgstore.proofs.Founded.{founded_as, founded_store}
 use Rattle.pgstore.proofs.Groups.{begun_empty}
 use Rattle.pgstore.proofs.Reopened.{refused_stays}
 use Rattle.pgstore.proofs.Stores.{adopted_survives}

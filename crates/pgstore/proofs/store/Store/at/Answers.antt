@@ -1,8 +1,8 @@
 use Rattle.std.proofs.Common.{◌<◌, ◌^◌, sym, subst, arith}
 use Rattle.pgrows.specs.Rows.{IsNumbered}
+use Rattle.pgreshaping.proofs.Remembering.{none_known}
 use Rattle.pgstore.specs.StoreValue.{IsStore}
 use Rattle.pgstore.proofs.Groups.{begun_empty}
-use Rattle.pgstore.proofs.Remembering.{none_known}
 use Rattle.pgstore.proofs.TreesRead.{trees_store}
 use Rattle.pgstore.proofs.store.Store.at.Goals as goal
 

@@ -3,8 +3,9 @@ use Rattle.sqlite.specs.Held.{AreDatabases}
 use Rattle.sqlite.specs.State.{HasCleanDisk}
 use Rattle.pgapply.specs.Stored.{Stored}
 use Rattle.pgrows.specs.Rows.{IfServing, state}
+use Rattle.pgencoded.specs.DatabaseValue.{AreOf}
 use Rattle.pgstore.specs.Sources.{rows_in}
-use Rattle.pgstore.specs.StoreValue.{AreOf, Holds, StoreValue}
+use Rattle.pgstore.specs.StoreValue.{Holds, StoreValue}
 use Rattle.pgstore.proofs.Stores.{committed_trees, left_databases}
 use Rattle.pgstore.proofs.store.Store.into_store.Goals as goal
 

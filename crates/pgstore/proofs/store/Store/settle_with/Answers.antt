@@ -2,8 +2,8 @@ use Rattle.std.proofs.Common.{sym, subst}
 use Rattle.sqlite.specs.State.{Survives}
 use Rattle.pgrows.specs.Rows.{state}
 use Rattle.pgapply.specs.Value.{Tables}
-use Rattle.pgstore.specs.Acts.{committed_of}
-use Rattle.pgstore.specs.Spelled.{IsStored}
+use Rattle.pgencoded.specs.Acts.{committed_of}
+use Rattle.pgencoded.specs.Spelled.{IsStored}
 use Rattle.pgstore.specs.Sources.{rows_in}
 use Rattle.pgledger.specs.Ledgers.{Syncs}
 use Rattle.pgledger.proofs.Calls.{rests_then, syncs_then}

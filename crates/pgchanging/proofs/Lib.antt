@@ -1,0 +1,4 @@
+pub mod Updating
+pub mod Missing
+pub mod FoundRows
+pub mod ToldImages

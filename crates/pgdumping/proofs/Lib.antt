@@ -1,0 +1,2 @@
+pub mod DumpNested
+pub mod DumpShown

@@ -1,0 +1,5 @@
+pub mod SpelledRows
+pub mod Acting
+pub mod Going
+pub mod Formed
+pub mod Deciding

@@ -1,0 +1,11 @@
+pub mod ColumnSpellings
+pub mod Definitions
+pub mod SameDefinition
+pub mod Remembering
+pub mod Parked
+pub mod Joining
+pub mod CarriedOn
+pub mod KeptKeys
+pub mod InPlace
+pub mod Rewritten
+pub mod Replacing

@@ -1,0 +1,4 @@
+pub mod Known
+pub mod Parks
+pub mod Carries
+pub mod Rewrites

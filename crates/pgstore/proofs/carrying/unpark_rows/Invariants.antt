@@ -1,5 +1,0 @@
-use Rattle.pgstore.specs.Carries.{CarriesOn}
-use Rattle.pgstore.proofs.carrying.unpark_rows.Given as goal
-
-abbrev pub invariant-loop : goal.invariant-loop
-invariant-loop g l = CarriesOn g.S.Store l.fn.rows l.rows l.old l.def l.park

@@ -1,6 +1,0 @@
-use Rattle.std.proofs.Common.{drop}
-use Rattle.pgstore.specs.Rewrites.{KeepsKey}
-use Rattle.pgstore.proofs.keys.keeps_key.Given as goal
-
-abbrev pub invariant-loop-column : goal.invariant-loop-column
-invariant-loop-column l = KeepsKey (drop l.column-index l.old) l.left → KeepsKey l.old l.new

@@ -1,5 +1,0 @@
-use Rattle.pgstore.specs.Parks.{StaysOn}
-use Rattle.pgstore.proofs.parking.free_oid.Given as goal
-
-abbrev pub invariant-loop-park : goal.invariant-loop-park
-invariant-loop-park g l = StaysOn g.S.Store l.fn.rows l.rows

@@ -1,5 +1,0 @@
-use Rattle.pgstore.specs.Rewrites.{RewritesOn}
-use Rattle.pgstore.proofs.rewriting.rewrite_rows.Given as goal
-
-abbrev pub invariant-loop : goal.invariant-loop
-invariant-loop g l = RewritesOn g.S.Store l.fn.rows l.rows l.old l.def l.from.items

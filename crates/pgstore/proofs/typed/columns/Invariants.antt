@@ -1,6 +1,0 @@
-use Rattle.std.proofs.Common.{take}
-use Rattle.pglogical.specs.Typed.{AreTypedColumns}
-use Rattle.pgstore.proofs.typed.columns.Given as goal
-
-abbrev pub invariant-loop-each : goal.invariant-loop-each
-invariant-loop-each l = AreTypedColumns (take l.each-index l.columns)
