@@ -2,6 +2,10 @@ mod Recovered
 mod Life
 mod FedLife
 mod Entries
+mod ToldEntries
+mod ToldLife
+mod LiveUp
+mod LiveLife
 mod StoredOnce
 mod LifeSessions
 mod LifeEntries
@@ -9,4 +13,5 @@ mod LifeFeeds
 mod LifeTakes
 mod LifeFed
 mod LifeRows
+mod LifeTold
 mod LifeAlone

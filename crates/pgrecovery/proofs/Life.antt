@@ -13,7 +13,8 @@ use Rattle.sqlite.specs.Recovery.{Image}
 use Rattle.pgapply.specs.Value.{Tables}
 use Rattle.pgapply.specs.Apply.{fold_changes}
 use Rattle.pgapply.specs.Stored.{Stored}
-use Rattle.pgstore.specs.StoreValue.{StoreValue, Serves, Holds, nothing_stored}
+use Rattle.pgstore.specs.StoreValue.{StoreValue, Serves, Holds}
+use Rattle.pgencoded.specs.DatabaseValue.{nothing_stored}
 use Rattle.pgstore.specs.Reopened.{CrashLeaves, HoldsContent, IsEmptyContent}
 use Rattle.pgstore.proofs.Reopened as reopened
 use Rattle.pgsub_core.specs.Server.History.{Transaction, IsHistory, IsHistoryFrom, all_changes}

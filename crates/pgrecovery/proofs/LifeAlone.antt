@@ -10,7 +10,7 @@ use Rattle.sqlite.specs.Recovery.{Image}
 use Rattle.pgorder.specs.declared.Version.TheVariants.{Two}
 use Rattle.pgapply.specs.Stored.{Stored}
 use Rattle.pgapply.specs.Value.{Tables}
-use Rattle.pgstore.specs.Acts.{committed_of}
+use Rattle.pgencoded.specs.Acts.{committed_of}
 use Rattle.pgstore.specs.StoreValue.{Contains, Holds, StoreValue}
 use Rattle.pgstore.specs.Reopened.{Reopens}
 use Rattle.pgsub_core.specs.declared.fault.Fault.{Fault}

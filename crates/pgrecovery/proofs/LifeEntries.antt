@@ -1,5 +1,5 @@
 -- The entries of the worked life: their lines, and the rows that they lead to.
-use Rattle.std.proofs.Common.{◌≡◌, ◌<◌, [], ◌∷◌, List, ℕ}
+use Rattle.std.proofs.Common.{◌≡◌, ◌<◌, ◌++◌, [], ◌∷◌, List, ℕ}
 use Rattle.std.proofs.Common.{Some}
 use Rattle.std.proofs.Common.{Option, Ok, refl, sym, ap, ◌∙◌, pos, arith}
 use Rattle.std.proofs.Common.{length, cond, ◌==◌}
@@ -13,20 +13,27 @@ use Rattle.pglsn.specs.Texts.{lsn_text, half_text}
 use Rattle.pgtuple.specs.Cells.{tuple_spelling}
 use Rattle.pgapply.specs.declared.commit.About.{About}
 use Rattle.pgapply.specs.Apply.{Change, apply, fold_changes, rows_after}
+use Rattle.pgapply.specs.Missing.{all_missing, nothing_missed, with_misses}
+use Rattle.pgapply.specs.Tallies.{TakenCommit, Tally, nothing_taken, taken_commit, with_commit}
 use Rattle.pgapply.specs.Value.{Tables}
 use Rattle.pgledger.specs.declared.image.Image.{Image}
 use Rattle.pgledger.specs.declared.image.Image.TheVariants.{Inserted, Updated, Deleted}
 use Rattle.pgledger.specs.Images.{image_of, images}
 use Rattle.pgledger.specs.Entries.{Entry, LeadTo, entry_of}
+use Rattle.pgledger.specs.Records.{TellTo, tally_since}
 use Rattle.pgfeed.specs.Texts.{Bodies, body_text, entry_body, key_data, messages_text}
 use Rattle.pgfeed.specs.Texts.{table_front}
 use Rattle.pgfeed.specs.Texts.{table_rest}
 use Rattle.pgfeed.specs.Fits.{FitsEntry}
 use Rattle.pgfeed.specs.Reading.{AreEntries}
+use Rattle.pgsub_core.specs.Server.History.{Transaction}
 use Rattle.pgsub_core.specs.Server.Work.{surviving_changes}
+use Rattle.pgsub_core.specs.Subscriber.Tallied.{history_tallied, tallied_over, told_of}
+use Rattle.pgsub_core.specs.Subscriber.Tallied.{transactions_tallied}
+use Rattle.pgsub_core.proofs.TalliedBetween.{tallied_over_rows}
 use Rattle.pgsub_core.proofs.Samples.{lookups, t, text}
 use Rattle.pgrecovery.proofs.LifeSessions.{tables_304, tables_448, tables_560, tables_672}
-use Rattle.pgrecovery.proofs.LifeSessions.{tables_816}
+use Rattle.pgrecovery.proofs.LifeSessions.{as_of_304, as_of_672, history, tables_816}
 use Rattle.pgrecovery.proofs.LifeSessions.{tx_10, tx_11, tx_12, tx_13, tx_14}
 
 -- ---- the entries
@@ -233,3 +240,104 @@ lead_14 =
 -- what run three's feed keeps leads from the rows at the segment that is left to the last ones
 pub leads_560 : LeadTo tables_560 560 (entry_13 ∷ entry_14 ∷ []) tables_816 816
 leads_560 = lead_13 (entry_14 ∷ []) tables_816 816 lead_14
+
+-- ---- which commits they tell: those of the history's transactions, as a store takes them
+
+abbrev taken : ℕ → ℕ → ℕ → List Change → TakenCommit
+taken lsn xid end changes = record { end = end; about = about lsn xid; changes = changes }
+
+abbrev pub taken_10 : TakenCommit
+taken_10 = taken 256 10 304 (surviving_changes tx_10.work)
+
+abbrev pub taken_11 : TakenCommit
+taken_11 = taken 400 11 448 (surviving_changes tx_11.work)
+
+abbrev pub taken_12 : TakenCommit
+taken_12 = taken 512 12 560 (surviving_changes tx_12.work)
+
+abbrev pub taken_13 : TakenCommit
+taken_13 = taken 624 13 672 (surviving_changes tx_13.work)
+
+abbrev pub taken_14 : TakenCommit
+taken_14 = taken 768 14 816 (surviving_changes tx_14.work)
+
+one_told : (tables mid : Tables) (at : ℕ) (e : Entry) (changes : List Change) (is : List Image) (es : List Entry)
+    (commits rest : List TakenCommit) (tables' : Tables) (at' : ℕ)
+    → at < e.end → images tables changes ≡ is → e ≡ entry_of e.end e.about e.messages changes is
+    → commits ≡ taken_commit e.end e.about changes ++ rest → fold_changes tables changes ≡ Ok mid
+    → TellTo mid e.end es rest tables' at'
+    → TellTo tables at (e ∷ es) commits tables' at'
+one_told tables mid at e changes is es commits rest tables' at' up are entry told folds more =
+    (up, (changes, entry ∙ ap (λ is. entry_of e.end e.about e.messages changes is) (sym are), (rest, told, (mid, folds, more))))
+
+pub tells_10 : (es : List Entry) (cs : List TakenCommit) (tables : Tables) (place : ℕ) → TellTo tables_304 304 es cs tables place
+    → TellTo map.empty 0 (entry_10 ∷ es) (taken_10 ∷ cs) tables place
+tells_10 es cs tables place more =
+    one_told map.empty tables_304 0 entry_10 (surviving_changes tx_10.work) _ es (taken_10 ∷ cs) cs tables place (omega arith) image_10 refl
+    refl folds_10 more
+
+pub tells_12 : (es : List Entry) (cs : List TakenCommit) (tables : Tables) (place : ℕ) → TellTo tables_560 560 es cs tables place
+    → TellTo tables_304 304 (entry_11 ∷ entry_12 ∷ es) (taken_11 ∷ taken_12 ∷ cs) tables place
+tells_12 es cs tables place more =
+    one_told tables_304 tables_448 304 entry_11 (surviving_changes tx_11.work) _ (entry_12 ∷ es) (taken_11 ∷ taken_12 ∷ cs) (taken_12 ∷ cs)
+    tables place (omega arith) image_11 refl refl folds_11
+    (one_told tables_448 tables_560 448 entry_12 (surviving_changes tx_12.work) _ es (taken_12 ∷ cs) cs tables place (omega arith) image_12
+    refl refl folds_12 more)
+
+pub tells_13 : TellTo tables_560 560 (entry_13 ∷ []) (taken_13 ∷ []) tables_672 672
+tells_13 =
+    one_told tables_560 tables_672 560 entry_13 (surviving_changes tx_13.work) _ [] (taken_13 ∷ []) [] tables_672 672 (omega arith)
+    image_13 refl refl folds_13 (refl, refl, refl)
+
+pub tells_14 : TellTo tables_672 672 (entry_14 ∷ []) (taken_14 ∷ []) tables_816 816
+tells_14 =
+    one_told tables_672 tables_816 672 entry_14 (surviving_changes tx_14.work) _ [] (taken_14 ∷ []) [] tables_816 816 (omega arith)
+    image_14 refl refl folds_14 (refl, refl, refl)
+
+-- ---- what comes to a tally: of these changes each finds its row
+
+missing_11 : all_missing tables_304 (surviving_changes tx_11.work) ≡ []
+unfolding all_missing apply rows_after tuple_spelling
+missing_11 = simp lookups
+
+missing_12 : all_missing tables_448 (surviving_changes tx_12.work) ≡ []
+unfolding all_missing apply rows_after tuple_spelling
+missing_12 = simp lookups
+
+missing_13 : all_missing tables_560 (surviving_changes tx_13.work) ≡ []
+unfolding all_missing apply rows_after tuple_spelling
+missing_13 = simp lookups
+
+missing_14 : all_missing tables_672 (surviving_changes tx_14.work) ≡ []
+unfolding all_missing apply rows_after tuple_spelling
+missing_14 = simp lookups
+
+one_counted : (tables mid : Tables) (tx : Transaction) (txs : List Transaction) (m : Tally)
+    → fold_changes tables (surviving_changes tx.work) ≡ Ok mid → all_missing tables (surviving_changes tx.work) ≡ []
+    → transactions_tallied tables (tx ∷ txs) m
+    ≡ transactions_tallied mid txs (record {
+      misses = m.misses;
+      commits = m.commits ++ taken_commit tx.end (told_of tx) (surviving_changes tx.work);
+    })
+one_counted tables mid tx txs m folds none =
+    let behind = with_commit m tables tx.end (told_of tx) (surviving_changes tx.work) in
+    let commits = m.commits ++ taken_commit tx.end (told_of tx) (surviving_changes tx.work) in
+    ap (λ r. tallied_over r (λ next. transactions_tallied next txs behind) behind) folds
+    ∙ ap (λ oids. transactions_tallied mid txs (record { misses = with_misses m.misses tx.end oids; commits = commits })) none
+
+-- behind some commits
+abbrev pub tally_of : List TakenCommit → Tally
+tally_of commits = record { misses = nothing_missed; commits = commits }
+
+pub counted_2 : history_tallied history 304 672 (tally_since 304 nothing_taken)
+    ≡ tally_since 304 (tally_of (taken_11 ∷ taken_12 ∷ taken_13 ∷ []))
+counted_2 =
+    tallied_over_rows history 304 672 tables_304 (tally_since 304 nothing_taken) as_of_304
+    ∙ one_counted tables_304 tables_448 tx_11 (tx_12 ∷ tx_13 ∷ []) (tally_since 304 nothing_taken) folds_11 missing_11
+    ∙ one_counted tables_448 tables_560 tx_12 (tx_13 ∷ []) (tally_since 304 (tally_of (taken_11 ∷ []))) folds_12 missing_12
+    ∙ one_counted tables_560 tables_672 tx_13 [] (tally_since 304 (tally_of (taken_11 ∷ taken_12 ∷ []))) folds_13 missing_13
+
+pub counted_3 : history_tallied history 672 816 (tally_since 672 nothing_taken) ≡ tally_since 672 (tally_of (taken_14 ∷ []))
+counted_3 =
+    tallied_over_rows history 672 816 tables_672 (tally_since 672 nothing_taken) as_of_672
+    ∙ one_counted tables_672 tables_816 tx_14 [] (tally_since 672 nothing_taken) folds_14 missing_14

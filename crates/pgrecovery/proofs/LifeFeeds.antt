@@ -10,8 +10,10 @@ use Rattle.std.specs.Fmt.{digits}
 use Rattle.std.specs.FinMap as map
 use Rattle.json.specs.Print.{escape_byte}
 use Rattle.pglsn.specs.Texts.{lsn_text, half_text}
+use Rattle.pgapply.specs.Tallies.{TakenCommit}
 use Rattle.pgapply.specs.Value.{Tables}
 use Rattle.pgledger.specs.Entries.{Entry, last_end}
+use Rattle.pgledger.specs.Records.{RecordsSince}
 use Rattle.pgfeed.specs.declared.feed.Feed.{Feed}
 use Rattle.pgfeed.specs.declared.segment.Segment.{Segment}
 use Rattle.pgfeed.specs.declared.told.Told.{Told}
@@ -24,7 +26,8 @@ use Rattle.pgfeed.specs.Segments.{EndsTested, IsCut, IsEnded, IsFound, IsHead, K
 use Rattle.pgfeed.specs.Segments.{Lasts}
 use Rattle.pgfeed.specs.Feeds.{IsHonestFeed, KeepsAll, LeavesAt, OpensIn, SomeLeaves}
 use Rattle.pgfeed.specs.Lasting.{IsLeftOf}
-use Rattle.pgfeed.specs.Beside.{LeadsFrom, RecordsRest}
+use Rattle.pgfeed.specs.Beside.{KeepsRest, LastsFrom, LeadsFrom, RecordsRest, is_stuck_feed}
+use Rattle.pgfeed.specs.Beside.{told_from}
 use Rattle.pgfeed.specs.Cutting.Walking.{drop_front, entry_length, over_entries, own_length}
 use Rattle.pgfeed.specs.Cutting.Walking.{take_front}
 use Rattle.pgfeed.specs.Cutting.Written.{text_append, written_front}
@@ -36,7 +39,8 @@ use Rattle.pgrecovery.proofs.LifeEntries.{entry_10, entry_11, entry_12, entry_13
 use Rattle.pgrecovery.proofs.LifeEntries.{body_10, body_11, body_13, bodies, size_10, fits_10}
 use Rattle.pgrecovery.proofs.LifeEntries.{size_11, fits_11, fits_12, size_13, fits_13, fits_14}
 use Rattle.pgrecovery.proofs.LifeEntries.{first_three, are_10, are_three, are_13, are_14, lead_10}
-use Rattle.pgrecovery.proofs.LifeEntries.{lead_12, lead_13, leads_560}
+use Rattle.pgrecovery.proofs.LifeEntries.{lead_12, lead_13, leads_560, taken_11, taken_12}
+use Rattle.pgrecovery.proofs.LifeEntries.{taken_13, taken_14, tells_12, tells_13, tells_14}
 
 -- ---- a folder in memory: its files, each with the LSN that names it, and their texts
 
@@ -442,7 +446,7 @@ module _ (any : MemoryFeed) (alone : any.ended.items ≡ []) (untold : any.segme
 
   -- ---- what each of them keeps
 
-  abbrev Keeps : MemoryFeed → List Entry → Type 0
+  abbrev pub Keeps : MemoryFeed → List Entry → Type 0
   Keeps = KeepsAll shows may_leave is_clean is_true places has
 
   one_segment : (base : ℕ) (es : List Entry) → IsHead base (head base) → AreEntries base es → AreWritten bodies (head base) base es
@@ -517,6 +521,9 @@ module _ (any : MemoryFeed) (alone : any.ended.items ≡ []) (untold : any.segme
   abbrev Records : MemoryFeed → Tables → ℕ → ℕ → Type 0
   Records = RecordsRest shows may_leave is_clean is_true places has
 
+  pub keeps_1 : Keeps feed_1_ended first_three
+  keeps_1 = one_segment 0 first_three head_0 are_three written_three
+
   -- amid a group: of what the feed tells, the store has xid 10 alone
   pub recorded_1 : Records feed_1_ended tables_304 304 560
   recorded_1 = record {
@@ -555,8 +562,8 @@ module _ (any : MemoryFeed) (alone : any.ended.items ≡ []) (untold : any.segme
     none = λ _ _. refl;
   }
 
-  pub recorded_2 : Records feed_2_ended tables_672 672 672
-  recorded_2 = record {
+  abbrev records_2 : Records feed_2_ended tables_672 672 672
+  records_2 = record {
     base = map.empty;
     told = first_three ++ entry_13 ∷ [];
     later = [];
@@ -569,8 +576,8 @@ module _ (any : MemoryFeed) (alone : any.ended.items ≡ []) (untold : any.segme
   }
 
   -- of the entries of the segment that has gone nothing is kept
-  pub recorded_3 : Records feed_3_ended tables_816 816 816
-  recorded_3 = record {
+  abbrev records_3 : Records feed_3_ended tables_816 816 816
+  records_3 = record {
     base = map.empty;
     told = first_three ++ entry_13 ∷ entry_14 ∷ [];
     later = [];
@@ -588,6 +595,12 @@ module _ (any : MemoryFeed) (alone : any.ended.items ≡ []) (untold : any.segme
     none = λ _ _. refl;
   }
 
+  pub recorded_2 : Records feed_2_ended tables_672 672 672
+  recorded_2 = records_2
+
+  pub recorded_3 : Records feed_3_ended tables_816 816 816
+  recorded_3 = records_3
+
   -- from the segment that is left its entries lead to the last rows
   pub led_3 : LeadsFrom shows may_leave is_clean is_true places has feed_3_ended tables_816 816
   led_3 = record {
@@ -596,4 +609,37 @@ module _ (any : MemoryFeed) (alone : any.ended.items ≡ []) (untold : any.segme
     later = [];
     kept = one_segment 560 (entry_13 ∷ entry_14 ∷ []) head_560 are_14 written_14;
     leads = leads_560;
+  }
+
+  -- and which commits those tell that came since its run began
+  abbrev RecordsAll : MemoryFeed → ℕ → List TakenCommit → Tables → ℕ → ℕ → Type 0
+  RecordsAll = RecordsSince told_from (KeepsRest shows may_leave is_clean is_true places has)
+      (LastsFrom shows may_leave is_clean is_true places has) is_stuck_feed
+
+  -- the first one came again, and is told once
+  pub told_2 : RecordsAll feed_2_ended 304 (taken_11 ∷ taken_12 ∷ taken_13 ∷ []) tables_672 672 672
+  told_2 = record {
+    records = records_2;
+    since = record {
+      before = entry_10 ∷ [];
+      since = entry_11 ∷ entry_12 ∷ entry_13 ∷ [];
+      are = refl;
+      mid = tables_304;
+      leads = lead_10 [] tables_304 304 (refl, refl);
+      tells = tells_12 (entry_13 ∷ []) (taken_13 ∷ []) tables_672 672 tells_13;
+    };
+  }
+
+  pub told_3 : RecordsAll feed_3_ended 672 (taken_14 ∷ []) tables_816 816 816
+  told_3 = record {
+    records = records_3;
+    since = record {
+      before = first_three ++ entry_13 ∷ [];
+      since = entry_14 ∷ [];
+      are = refl;
+      mid = tables_672;
+      leads = lead_10 (entry_11 ∷ entry_12 ∷ entry_13 ∷ []) tables_672 672
+          (lead_12 (entry_13 ∷ []) tables_672 672 (lead_13 [] tables_672 672 (refl, refl)));
+      tells = tells_14;
+    };
   }

@@ -22,12 +22,13 @@ use Rattle.pgorder.specs.Steps.{initial_order}
 use Rattle.pgapply.specs.declared.fault.StoreFault.{StoreFault}
 use Rattle.pgapply.specs.Stored.{Stored}
 use Rattle.pgapply.specs.Value.{Tables}
-use Rattle.pgapply.specs.Tallies.{nothing_taken}
+use Rattle.pgapply.specs.Tallies.{TakenCommit}
 use Rattle.pgfeed.specs.Beside.{LeadsFrom, RecordsRest}
 use Rattle.pgfeed.specs.Hearing.{all_heard}
 use Rattle.pgfeed.proofs.Beside.{goes_on}
-use Rattle.pgstore.specs.Acts.{committed_of}
-use Rattle.pgstore.specs.StoreValue.{AreOf, Contains, Holds as Store_holds, Serves}
+use Rattle.pgencoded.specs.Acts.{committed_of}
+use Rattle.pgencoded.specs.DatabaseValue.{AreOf}
+use Rattle.pgstore.specs.StoreValue.{Contains, Holds as Store_holds, Serves}
 use Rattle.pgstore.specs.Reopened.{CrashLeaves, HoldsContent, IsEmptyContent}
 use Rattle.pgstore.proofs.Reopened.{closed_is_reopened, left_is_reopened}
 use Rattle.pgsub_core.specs.declared.fault.Fault.{Fault}
@@ -38,16 +39,16 @@ use Rattle.pgsub_core.specs.Server.Stream.{Sent}
 use Rattle.pgsub_core.specs.Machine.Replica.{RelationCache}
 use Rattle.pgsub_core.specs.Subscriber.Crashing.{IsLeftSafely, LeavesHistory, StandsAsFed}
 use Rattle.pgsub_core.specs.Subscriber.Following.{AreFed, FollowsSessions}
-use Rattle.pgsub_core.specs.Subscriber.Safe.{NothingBetween}
+use Rattle.pgsub_core.specs.Subscriber.Safe.{IsSafe, NothingBetween}
 use Rattle.pgsub_core.specs.Subscriber.Safely.{IsSent}
-use Rattle.pgsub_core.specs.Subscriber.Subscribed.{IsSafeFor}
+use Rattle.pgsub_core.specs.Subscriber.Subscribed.{IsSafeFor, newly}
 use Rattle.pgsub_core.specs.Subscriber.SubscriberValue.{SubscriberValue, seen}
 use Rattle.pgsub_core.proofs.Followed.{fed_followed}
 use Rattle.pgrecovery.specs.Recovered.{holds_tables}
 use Rattle.pgrecovery.specs.Life.{ClosedAs}
 use Rattle.pgrecovery.specs.FedLife.{AreFedRuns, FedRun, FedStore, HoldFedThrough, HoldsFed}
-use Rattle.pgrecovery.specs.FedLife.{fed_place, fed_position, holds_fed, reopens_fed}
-use Rattle.pgrecovery.proofs.FedLife.{one_fed_life}
+use Rattle.pgrecovery.specs.FedLife.{IsLeftFed, fed_position, holds_fed, reopens_fed}
+use Rattle.pgrecovery.proofs.FedLife.{followed_crash, followed_rows, followed_up, one_fed_life}
 use Rattle.pgrecovery.proofs.LifeSessions.{as_of_0, as_of_304, as_of_672, as_of_816, bytes_1}
 use Rattle.pgrecovery.proofs.LifeSessions.{bytes_2, bytes_3, complete_1, complete_2, complete_3}
 use Rattle.pgrecovery.proofs.LifeSessions.{handled_1, history, is_history}
@@ -56,7 +57,8 @@ use Rattle.pgrecovery.proofs.LifeSessions.{tables_672, tables_816}
 use Rattle.pgrecovery.proofs.LifeFeeds.{Folder, MemoryFeed, feed_1, feed_1_ended, feed_2}
 use Rattle.pgrecovery.proofs.LifeFeeds.{feed_2_ended}
 use Rattle.pgrecovery.proofs.LifeFeeds.{feed_3, feed_3_ended, file, folder_1, folder_3, has, honest}
-use Rattle.pgrecovery.proofs.LifeEntries.{entry_10, entry_13}
+use Rattle.pgrecovery.proofs.LifeEntries.{entry_10, entry_13, taken_10, taken_11, taken_12}
+use Rattle.pgrecovery.proofs.LifeEntries.{taken_13, taken_14, tally_of}
 use Rattle.pgrecovery.proofs.LifeFeeds.{is_clean, is_true, left_1, left_2}
 use Rattle.pgrecovery.proofs.LifeFeeds.{may_leave}
 use Rattle.pgrecovery.proofs.LifeFeeds.{opened_1, opened_2, opened_3, places, recorded_1}
@@ -74,20 +76,24 @@ Store g = FedStore g Folder (List ℕ)
 abbrev pub One : {D : Type 0} → disk.Ghosts D → Type 0
 One g = SubscriberValue (Store g)
 
--- A subscriber over a store with these rows, this position, and commits staged up to that LSN.
--- This is confirmed, and this received. A session has told these definitions, and CopyDone has
--- come, or a fault has closed it.
-abbrev pub one : {D : Type 0} {g : disk.Ghosts D} → FileStore D g → MemoryFeed → ℕ → ℕ → ℕ → ℕ → RelationCache → Bool → Bool → One g
-one rows feed position reach confirmed received relations closed copy_done = record {
+abbrev pub fed_place : {D : Type 0} {g : disk.Ghosts D} → One g → ℕ
+fed_place s = s.applied.store.store.position
+
+-- A subscriber over a store with these rows, which has taken these commits since its run began
+-- there, with this position, and commits staged up to that LSN. This is confirmed, and this
+-- received. A session has told these definitions, and CopyDone has come, or a fault has closed it.
+abbrev pub one : {D : Type 0} {g : disk.Ghosts D} → FileStore D g → MemoryFeed → ℕ → List TakenCommit → ℕ → ℕ → ℕ → ℕ → RelationCache
+    → Bool → Bool → One g
+one rows feed from commits position reach confirmed received relations closed copy_done = record {
   applied = record {
     store = record {
       store = record {
         rows = rows;
         position = position;
-        group = record { reach = reach; is_lost = false; tally = nothing_taken; stages_tally = nothing_taken };
+        group = record { reach = reach; is_lost = false; tally = tally_of commits; stages_tally = tally_of commits };
       };
       ledger = feed;
-      from = position;
+      from = from;
     };
     confirmed = confirmed;
     received = received;
@@ -103,7 +109,7 @@ one rows feed position reach confirmed received relations closed copy_done = rec
 
 -- as one that was opened there
 abbrev pub opened : {D : Type 0} {g : disk.Ghosts D} → FileStore D g → MemoryFeed → ℕ → One g
-opened rows feed position = one rows feed position position position position map.empty false false
+opened rows feed position = one rows feed position [] position position position position map.empty false false
 
 -- ---- what the handled messages reach
 
@@ -194,31 +200,34 @@ module _ {D : Type 0} {g : disk.Ghosts D} (l : Given g) where
 
   -- amid a group: xids 11 and 12 are staged, up to 560, and the store's position is 304
   abbrev pub ended_1 : One g
-  ended_1 = one l.rows_1_ended (feed_1_ended l.any l.alone l.untold l.unheard) 304 560 304 384 told_t true false
+  ended_1 = one l.rows_1_ended (feed_1_ended l.any l.alone l.untold l.unheard) 0 (taken_10 ∷ []) 304 560 304 384 told_t true false
 
   abbrev pub begun_2 : One g
   begun_2 = opened l.rows_2 (feed_2 l.any l.alone l.untold l.unheard) 304
 
   abbrev pub ended_2 : One g
-  ended_2 = one l.rows_2_ended (feed_2_ended l.any l.alone l.untold l.unheard) 672 672 700 700 told_t false true
+  ended_2 =
+      one l.rows_2_ended (feed_2_ended l.any l.alone l.untold l.unheard) 304 (taken_11 ∷ taken_12 ∷ taken_13 ∷ []) 672 672 700 700 told_t
+      false true
 
   abbrev pub begun_3 : One g
   begun_3 = opened l.rows_3 (feed_3 l.any l.alone l.untold l.unheard) 672
 
   abbrev pub ended_3 : One g
-  ended_3 = one l.rows_3_ended (feed_3_ended l.any l.alone l.untold l.unheard) 816 816 816 816 told_t false true
+  ended_3 = one l.rows_3_ended (feed_3_ended l.any l.alone l.untold l.unheard) 672 (taken_14 ∷ []) 816 816 816 816 told_t false true
 
   abbrev run : Image → Folder → One g → List ℕ → List Sent → One g → Image → FedRun g Folder (List ℕ)
   run content folder begun bytes complete ended after = record {
     content = content;
     folder = folder;
-    begun = begun;
+    begun = begun.applied.store;
     version = Two;
     max_frame = 16777216;
     limit = 1000;
     sessions = bytes ∷ [];
     all_complete = complete ∷ [];
-    ended = ended;
+    ended = ended.applied.store;
+    confirmed = ended.applied.confirmed;
     after = after;
   }
 
@@ -359,6 +368,33 @@ module _ {D : Type 0} {g : disk.Ghosts D} (l : Given g) where
     is,
   )
 
+  -- ---- which is what is asked of a run
+
+  module _ (begun ended : One g) (bytes : List ℕ) (complete : List Sent)
+      (new : (tables : Tables) → seen fed_position begun tables ≡ newly tables (fed_place begun) Two 16777216 1000) where
+    abbrev Comes : Tables → Type 0
+    Comes tables = IsSent history (newly tables (fed_place begun) Two 16777216 1000) (bytes ∷ []) (complete ∷ [])
+
+    fed_up : (answered : Option Fault) → StandsAsFed fed_position (Follows begun bytes answered) ended → (tables : Tables)
+        → Holds begun.applied.store tables → Comes tables → fed_place begun ≤ fed_place ended
+    fed_up answered =
+        followed_up g shows may_leave is_clean is_true places has ⊤ begun ended Two 16777216 1000 new history (bytes ∷ []) (complete ∷ [])
+        clock answered
+
+    fed_rows : (answered : Option Fault) → Follows begun bytes answered ended → (tables : Tables) → Holds begun.applied.store tables
+        → Comes tables
+        → (tables' : Tables) × Holds ended.applied.store tables' × IsSafe history tables' (fed_place ended) ended.applied.confirmed
+    fed_rows answered =
+        followed_rows g shows may_leave is_clean is_true places has ⊤ begun ended Two 16777216 1000 new history (bytes ∷ [])
+        (complete ∷ []) clock answered
+
+    fed_crash : Leaves begun bytes ended → (tables : Tables) → Holds begun.applied.store tables → Comes tables → (other : Store g)
+        → reopens_fed g shows may_leave is_clean is_true places has ⊤ ended.applied.store other
+        → IsLeftFed g shows may_leave is_clean is_true places has ⊤ history (fed_place ended) ended.applied.confirmed other
+    fed_crash =
+        followed_crash g shows may_leave is_clean is_true places has ⊤ begun ended Two 16777216 1000 new history (bytes ∷ [])
+        (complete ∷ [])
+
   module _ (lived : IsLived) where
     abbrev pub Holds_1 : Type 0
     Holds_1 = holds_tables over_files begun_1.applied.store.store map.empty
@@ -388,11 +424,13 @@ module _ {D : Type 0} {g : disk.Ghosts D} (l : Given g) where
 
     -- run one's subscriber, but over a store that serves
     abbrev pub stood_1 : One g
-    stood_1 = one l.rows_2 (feed_1_ended l.any l.alone l.untold l.unheard) 304 560 304 384 told_t true false
+    stood_1 = one l.rows_2 (feed_1_ended l.any l.alone l.untold l.unheard) 0 (taken_10 ∷ []) 304 560 304 384 told_t true false
 
     -- and as it would be if the store had all that was staged
     abbrev pub all_1 : One g
-    all_1 = one l.rows_1_ended (feed_1_ended l.any l.alone l.untold l.unheard) 560 560 560 560 told_t true false
+    all_1 =
+        one l.rows_1_ended (feed_1_ended l.any l.alone l.untold l.unheard) 0 (taken_10 ∷ taken_11 ∷ taken_12 ∷ []) 560 560 560 560 told_t
+        true false
 
     why_1 : Holds_2 → StandsAsFed fed_position (Follows begun_1 bytes_1 refused) ended_1
     why_1 held = (
@@ -437,13 +475,12 @@ module _ {D : Type 0} {g : disk.Ghosts D} (l : Given g) where
         found = lived.found_1;
         opened = opened_1 l.any l.alone l.untold l.unheard;
         honest = λ _. honest l.any l.alone l.untold l.unheard ((0, file 0 []) ∷ []) 0 0 [];
-        new = λ tables. refl;
         sent = λ tables. ((0, omega arith, inl session_1), tt);
-        clock = clock;
-        answered = refused;
-        followed = why_1 held_2;
-        rows = λ serves. absurd (lived.shut_1 serves);
-        crash = crash_1;
+        followed = record {
+          up = fed_up begun_1 ended_1 bytes_1 complete_1 (λ tables. refl) refused (why_1 held_2);
+          rows = λ serves. absurd (lived.shut_1 serves);
+          crash = fed_crash begun_1 ended_1 bytes_1 complete_1 (λ tables. refl) crash_1;
+        };
         left = inl lived.left_1;
       },
       (
@@ -453,14 +490,14 @@ module _ {D : Type 0} {g : disk.Ghosts D} (l : Given g) where
           found = lived.found_2;
           opened = opened_2 l.any l.alone l.untold l.unheard;
           honest = λ _. honest l.any l.alone l.untold l.unheard ((0, file 0 (entry_10 ∷ [])) ∷ []) 0 0 (entry_10 ∷ []);
-          new = λ tables. refl;
           sent = λ tables. ((0, omega arith, inl session_2), tt);
-          clock = clock;
-          answered = None;
-          followed = stands ended_2 (followed_2 held_2);
-          rows = λ _. followed_2 held_2;
-          crash = leaves begun_2 ended_2 bytes_2 tables_304 tables_672 672 held_2 lived.contains_2
-              (recorded_2 l.any l.alone l.untold l.unheard) feeds_2;
+          followed = record {
+            up = fed_up begun_2 ended_2 bytes_2 complete_2 (λ tables. refl) None (stands ended_2 (followed_2 held_2));
+            rows = λ _. fed_rows begun_2 ended_2 bytes_2 complete_2 (λ tables. refl) None (followed_2 held_2);
+            crash = fed_crash begun_2 ended_2 bytes_2 complete_2 (λ tables. refl)
+                (leaves begun_2 ended_2 bytes_2 tables_304 tables_672 672 held_2 lived.contains_2
+                (recorded_2 l.any l.alone l.untold l.unheard) feeds_2);
+          };
           left = inr (lived.serves_2, lived.closed_2);
         },
         (
@@ -470,14 +507,14 @@ module _ {D : Type 0} {g : disk.Ghosts D} (l : Given g) where
             found = lived.found_3;
             opened = opened_3 l.any l.alone l.untold l.unheard;
             honest = λ _. honest l.any l.alone l.untold l.unheard (folder_3 l.any l.alone l.untold l.unheard) 560 560 (entry_13 ∷ []);
-            new = λ tables. refl;
             sent = λ tables. ((700, omega arith, inl session_3), tt);
-            clock = clock;
-            answered = None;
-            followed = stands ended_3 (followed_3 held_3);
-            rows = λ _. followed_3 held_3;
-            crash = leaves begun_3 ended_3 bytes_3 tables_672 tables_816 816 held_3 lived.contains_3
-                (recorded_3 l.any l.alone l.untold l.unheard) feeds_3;
+            followed = record {
+              up = fed_up begun_3 ended_3 bytes_3 complete_3 (λ tables. refl) None (stands ended_3 (followed_3 held_3));
+              rows = λ _. fed_rows begun_3 ended_3 bytes_3 complete_3 (λ tables. refl) None (followed_3 held_3);
+              crash = fed_crash begun_3 ended_3 bytes_3 complete_3 (λ tables. refl)
+                  (leaves begun_3 ended_3 bytes_3 tables_672 tables_816 816 held_3 lived.contains_3
+                  (recorded_3 l.any l.alone l.untold l.unheard) feeds_3);
+            };
             left = inr (lived.serves_3, lived.closed_3);
           },
           tt,
@@ -497,7 +534,7 @@ module _ {D : Type 0} {g : disk.Ghosts D} (l : Given g) where
     -- ---- what that says
 
     tells : (confirmed p : ℕ) (tables : Tables) (s : One g) → fed_place s ≡ p → tables_as_of history p ≡ Ok tables
-        → HoldsFed g shows may_leave is_clean is_true places has ⊤ history confirmed s → Tells confirmed p tables s
+        → HoldsFed g shows may_leave is_clean is_true places has ⊤ history confirmed s.applied.store → Tells confirmed p tables s
     tells confirmed p tables s at as_of h =
         let same : h.tables ≡ tables =
         only p h.tables tables (subst (λ q. tables_as_of history q ≡ Ok h.tables) at h.same) as_of in

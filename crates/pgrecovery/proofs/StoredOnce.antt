@@ -24,8 +24,8 @@ use Rattle.pglogical.specs.Spelling.{IsWireMessage}
 use Rattle.pglogical.specs.Typed.{AreTypedColumns}
 use Rattle.pgtables.specs.Kept as stored
 use Rattle.pgapply.specs.Value.{IsTable, Row, Table, Tables}
-use Rattle.pgstore.specs.Spelled.{IsReadable, IsSpellable, IsStored, row_in, spelled_definition}
-use Rattle.pgstore.specs.Spelled.{spelled_row}
+use Rattle.pgencoded.specs.Spelled.{IsReadable, IsSpellable, IsStored, row_in, spelled_definition}
+use Rattle.pgencoded.specs.Spelled.{spelled_row}
 use Rattle.pgsub_core.proofs.ReadAgain.{read_again}
 
 -- ---- a definition

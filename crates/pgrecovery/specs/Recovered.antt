@@ -10,8 +10,8 @@ use Rattle.sqlite.specs.Files.{over_files}
 use Rattle.pgorder.specs.declared.Version.{Version}
 use Rattle.pgapply.specs.Value.{Tables}
 use Rattle.pgapply.specs.Stored.{Stored}
-use Rattle.pgstore.specs.Acts.{committed_of}
-use Rattle.pgstore.specs.Spelled.{IsStored}
+use Rattle.pgencoded.specs.Acts.{committed_of}
+use Rattle.pgencoded.specs.Spelled.{IsStored}
 use Rattle.pgstore.specs.StoreValue.{StoreValue, Contains}
 use Rattle.pgstore.specs.Reopened.{CrashLeaves, HoldsContent, Reopens}
 use Rattle.pgsub_core.specs.Server.History.{Transaction, IsHistory, tables_as_of}

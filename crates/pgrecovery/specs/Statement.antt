@@ -4,6 +4,7 @@
 --   pgsub_core::follow.safe
 --   pgrecovery::one_life_holds_one_history.life
 --   pgrecovery::one_fed_life_holds_one_history.life
+--   pgrecovery::one_fed_life_tells_one_history.life
 --
 -- `tools/statement --names` prints this file, and `--text` the definitions themselves.
 pub use Rattle.pgsub_core.specs.Server.Work.{Work, changes_of, surviving_changes, is_among}
@@ -91,16 +92,16 @@ pub use Rattle.pgtables.specs.Kept.{AreHeld, pos_row, Tables as Tables_of_pgtabl
 pub use Rattle.pgtables.specs.Kept.{tables_in, IsKept as IsKept_of_pgtables}
 pub use Rattle.pgtables.specs.Schema.{needed, no_stamps, held, held_table, held_index, pos_table}
 pub use Rattle.pgtables.specs.Schema.{pos_at, rel, store_schema}
-pub use Rattle.pgstore.specs.Spelled.{AreTupleRows, IsReadable, IsSpellable, AreSpellable, row_in}
-pub use Rattle.pgstore.specs.Spelled.{spelled_definition, spelled_row, IsSpelled, IsStored}
+pub use Rattle.pgencoded.specs.Spelled.{AreTupleRows, IsReadable, IsSpellable, AreSpellable, row_in}
+pub use Rattle.pgencoded.specs.Spelled.{spelled_definition, spelled_row, IsSpelled, IsStored}
 pub use Rattle.pglogical.specs.Typed.{IsTypedColumn, AreTypedColumns}
 pub use Rattle.pgapply.specs.Stored.{Stored}
 pub use Rattle.pgrows.specs.Rows.{database, shown_mark, saved_in, AreBelow, AreLow, IsSaved}
 pub use Rattle.pgrows.specs.Rows.{IsBehind, GoesOn, state}
-pub use Rattle.pgstore.specs.StoreValue.{AreOf, Group, StoreValue, Holds, IsHonest, Serves}
-pub use Rattle.pgstore.specs.StoreValue.{IsPlaceOf, IsValueOf, nothing_stored}
-pub use Rattle.pgapply.specs.Tallies.{TakenCommit, Tally}
-pub use Rattle.pgstore.specs.Acts.{committed_of}
+pub use Rattle.pgencoded.specs.DatabaseValue.{AreOf, IsPlaceOf, IsValueOf, nothing_stored}
+pub use Rattle.pgapply.specs.Tallies.{TakenCommit, Tally, taken_commit, with_commit, nothing_taken}
+pub use Rattle.pgstore.specs.StoreValue.{Group, StoreValue, Holds, IsHonest, Serves}
+pub use Rattle.pgencoded.specs.Acts.{committed_of}
 pub use Rattle.pgstore.specs.Reopened.{IsCopiedTo, CrashLeaves, IsEmptyContent, HoldsContent}
 pub use Rattle.pgstore.specs.Reopened.{Reopens}
 pub use Rattle.pgrecovery.specs.Life.{ClosedAs, Run, place_of, IsRun, AreRuns, HoldsHistory}
@@ -121,19 +122,21 @@ pub use Rattle.pgtables.specs.Remains.{rows_if, remaining, listed, IsIndexOfRows
 pub use Rattle.pgtables.specs.Remains.{schema_of}
 pub use Rattle.pgsub_core.specs.Subscriber.Crashing.{IsLeftSafely, LeavesHistory, StandsAsFed}
 pub use Rattle.pgrecovery.specs.Recovered.{OverFiles, holds_tables, position_of}
-pub use Rattle.pgrecovery.specs.FedLife.{FedStore, FedRun, fed_place, fed_position, holds_fed}
-pub use Rattle.pgrecovery.specs.FedLife.{reopens_fed, IsFedRun, IsLeftBy as IsLeftBy_of_pgrecovery}
-pub use Rattle.pgrecovery.specs.FedLife.{AreFedRuns, HoldsFed, HoldFedThrough, OneFedLife}
-pub use Rattle.pgfeed.specs.Feeds.{IsHonestFeed, IsFresh, IsCutAt, OpenedFrom, first_of, CutsIn}
-pub use Rattle.pgfeed.specs.Feeds.{OpensIn, AreEnded, HasHeadAt, NoneAt, SomeLeaves, MayHave}
-pub use Rattle.pgfeed.specs.Feeds.{LeavesAt, IsWhole, KeepsAll, LastsUpTo, BeginAt, BeginBelow}
-pub use Rattle.pgfeed.specs.Feeds.{Follow, IsLeftIn, ReopensAt}
+pub use Rattle.pgrecovery.specs.FedLife.{FedStore, FedRun, fed_position, holds_fed, IsLeftFed}
+pub use Rattle.pgrecovery.specs.FedLife.{fed_newly, reopens_fed}
+pub use Rattle.pgrecovery.specs.FedLife.{IsFollowed as IsFollowed_of_pgrecovery, IsFedRun}
+pub use Rattle.pgrecovery.specs.FedLife.{IsLeftBy as IsLeftBy_of_pgrecovery, AreFedRuns, HoldsFed}
+pub use Rattle.pgrecovery.specs.FedLife.{HoldFedThrough, OneFedLife}
 pub use Rattle.pgledger.specs.Images.{Line, lines, deleted_image, searched_row, updated_image}
 pub use Rattle.pgledger.specs.Images.{rows_or_none, change_image, images_after}
 unfoldable pub use Rattle.pgledger.specs.Images.{image_of, images}
 pub use Rattle.pgledger.specs.Entries.{Entry, last_end, entry_of, LeadTo}
 pub use Rattle.pgfeed.specs.Reading.{AreEntries, Stands, IsBody, AreWritten, BeginsWith, HasItsCrc}
 pub use Rattle.pgfeed.specs.Reading.{Walks}
+pub use Rattle.pgfeed.specs.Feeds.{IsHonestFeed, AreEnded, HasHeadAt, NoneAt, SomeLeaves, MayHave}
+pub use Rattle.pgfeed.specs.Feeds.{LeavesAt, IsWhole, KeepsAll, LastsUpTo, BeginAt, BeginBelow}
+pub use Rattle.pgfeed.specs.Feeds.{Follow, IsLeftIn, IsFresh, IsCutAt, OpenedFrom, first_of, CutsIn}
+pub use Rattle.pgfeed.specs.Feeds.{OpensIn, ReopensAt}
 pub use Rattle.pgfeed.specs.Texts.{Bodies, column_data, columns_data, key_names, table_line}
 pub use Rattle.pgfeed.specs.Texts.{if_there, newer, same_column as same_column_of_pgfeed}
 pub use Rattle.pgfeed.specs.Texts.{same_definition, told_at, newest, place, fresh_text}
@@ -155,11 +158,19 @@ pub use Rattle.pglsn.specs.Texts.{upper_digit}
 unfoldable pub use Rattle.pglsn.specs.Texts.{half_text, lsn_text}
 pub use Rattle.pgcrc.specs.Crc.{differ, divisor, is_odd, message_bits, ones}
 unfoldable pub use Rattle.pgcrc.specs.Crc.{after_bit, after_bits, bits, crc32}
-pub use Rattle.pgfeed.specs.Segments.{IsHead, KeepsEntries, Begins, IsFront, LastsAs, Lasts}
-pub use Rattle.pgfeed.specs.Segments.{most_tested, EndsTested, IsCut, IsFound, IsFinished, IsEnded}
-pub use Rattle.pgfeed.specs.Segments.{HasHead, HasWhatLasts}
-pub use Rattle.pgfeed.specs.Hearing.{if_whole, all_heard}
+pub use Rattle.pgfeed.specs.Segments.{IsHead, IsFinished, IsEnded, Begins, IsFront, HasHead}
+pub use Rattle.pgfeed.specs.Segments.{KeepsEntries, LastsAs, Lasts, HasWhatLasts, most_tested}
+pub use Rattle.pgfeed.specs.Segments.{EndsTested, IsCut, IsFound}
 pub use Rattle.pgfeed.specs.Beside.{KeepsRest, LastsFrom, is_stuck_feed, told_from, RecordsRest}
 pub use Rattle.pgfeed.specs.Beside.{LeadsFrom}
-pub use Rattle.pgledger.specs.Records.{Records}
+pub use Rattle.pgledger.specs.Records.{Records, tally_since, TellTo, TellsSince, RecordsSince}
+pub use Rattle.pgfeed.specs.Hearing.{if_whole, all_heard}
 pub use Rattle.pgfeed.specs.Lasting.{IsLeftOf}
+pub use Rattle.pgrecovery.specs.ToldLife.{fed_tally, holds_told, IsToldRun, TellsThere, TellThrough}
+pub use Rattle.pgrecovery.specs.ToldLife.{OneToldLife}
+pub use Rattle.pgsub_core.specs.Subscriber.Tallied.{ended_between, tallied_over, told_of}
+pub use Rattle.pgsub_core.specs.Subscriber.Tallied.{transactions_tallied, history_tallied, taken_of}
+pub use Rattle.pgapply.specs.Missing.{behind, is_absent as is_absent_of_pgapply, finds_none}
+pub use Rattle.pgapply.specs.Missing.{missing_in, missing, oids_of, first_miss, with_miss}
+pub use Rattle.pgapply.specs.Missing.{with_misses, nothing_missed}
+unfoldable pub use Rattle.pgapply.specs.Missing.{all_missing}

@@ -5,6 +5,8 @@ ghost use Rattle.pgrecovery.specs.Recovered.{ServedIsRecovered};
 ghost use Rattle.pgrecovery.specs.Entries.{EntriesAreTransactions};
 ghost use Rattle.pgrecovery.specs.FedLife.{OneFedLife};
 ghost use Rattle.pgrecovery.specs.Life.{OneLife};
+ghost use Rattle.pgrecovery.specs.LiveLife.{LiveRunsAreRuns};
+ghost use Rattle.pgrecovery.specs.ToldLife.{OneToldLife};
 
 use pgfeed::Folder;
 use pgledger::{Ledger, Supposing};
@@ -69,4 +71,35 @@ pub fn one_fed_life_holds_one_history<D: Disk, F: Folder + Supposing + Drop>()
 /// PostgreSQL documentation, Logical Replication Message Formats, Begin, Commit and Stream Commit.
 pub fn entries_are_transactions<L: Ledger>()
     ensures told { EntriesAreTransactions L.begins L.keeps L.outlasts L.is_stuck }
+{}
+
+/// Which transactions the entries of a feed are over one life: in runs as those of
+/// `one_fed_life_holds_one_history`. As each begins, its store has taken nothing; where the store
+/// serves as it ends, rows and tally are the history's.
+///
+/// Then where the store serves as a run ends, the entries that the feed got in it are the history's
+/// transactions that change rows and end behind the position at which the run began, up to the
+/// store's position: one by one and each once, as `entries_are_transactions` says. They still are
+/// as the next run begins there, closed or crashed in between, but for a front that went with
+/// segments which others removed.
+///
+/// That a later run leaves them as they are is said of each call of a ledger alone (`kept`,
+/// `appended`). Where the store has shut, nothing is said of what the feed got in the run.
+///
+/// PostgreSQL documentation, Logical Replication Message Formats, Begin, Commit and Stream Commit.
+pub fn one_fed_life_tells_one_history<D: Disk, F: Folder + Supposing + Drop>()
+    ensures life { OneToldLife D.Disk F.File.seen F.File.may_leave F.File.is_clean F.is_true
+        F.places F.has F.supposed }
+{}
+
+/// What follows a server live makes runs of a life: let `follow_live` have followed one over a
+/// store in two files with a feed (`pgledger::Recorded`), which may be inside another one, as one
+/// that tells a listener, and let it have told its first status. Of sessions that have all that it
+/// took, what `one_fed_life_holds_one_history` and `one_fed_life_tells_one_history` ask of a run is
+/// so.
+///
+/// PostgreSQL documentation, Streaming Replication Protocol.
+pub fn live_runs_are_runs<D: Disk, F: Folder + Supposing + Drop, C>()
+    ensures live { LiveRunsAreRuns D.Disk F.File.seen F.File.may_leave F.File.is_clean F.is_true
+        F.places F.has F.supposed C }
 {}

@@ -17,6 +17,6 @@ mod laws;
 
 pub use following::follow_in_files;
 pub use laws::{
-    crashes_lose_nothing_confirmed, entries_are_transactions, one_fed_life_holds_one_history,
-    one_life_holds_one_history,
+    crashes_lose_nothing_confirmed, entries_are_transactions, live_runs_are_runs,
+    one_fed_life_holds_one_history, one_fed_life_tells_one_history, one_life_holds_one_history,
 };
