@@ -14,6 +14,7 @@ taken.
 import collections
 import contextlib
 import dataclasses
+import itertools
 import os
 import threading
 import time
@@ -29,6 +30,7 @@ from ..server.connection import Connection
 from ..server.publications import are_so_named, stored_in
 from ..server.session import Subscription
 from .messages import Frame, text_frames
+from .row_order import Run, runs_of
 from .rows_beside import RowsBeside
 
 # How many bytes a part has about, how many are read at a time, how many parts of the table that is
@@ -280,7 +282,8 @@ class Readers:
     def pass_on(self, connection: Connection, table: Table) -> None:
         """Passes a table on part by part; a small one once it is read, and not locked any more."""
         waiting, is_large = list[Part](), self.is_large(table)
-        for part in parts_of(connection, table, self.reading.most, self.beside):
+        runs = runs_of(connection, table, self.reading.sizes.get(table.oid, 0))
+        for part in parts_of(connection, table, runs, self.reading.most, self.beside):
             waiting.append(part)
             if is_large or len(waiting) > AHEAD:
                 while waiting:
@@ -314,10 +317,12 @@ class Readers:
         return named and files.items() <= self.reading.stored.items()
 
 
-def parts_of(connection: Connection, table: Table, most: int, beside: RowsBeside) -> Iterator[Part]:
+def parts_of(
+    connection: Connection, table: Table, runs: list[Run], most: int, beside: RowsBeside
+) -> Iterator[Part]:
     """All rows of a table, in parts, of which frames have payloads of so many bytes at most."""
     part = Part(table, is_first=True)
-    for lines in connection.copied_blocks(table.query(), BLOCK):
+    for lines in itertools.chain.from_iterable(it.blocks(connection, BLOCK) for it in runs):
         if part.size >= PART:
             yield part
             part = Part(table, is_first=False, longest=part.longest)
