@@ -93,15 +93,8 @@ class Run:
         words = ["/usr/bin/python3", "-S", "-E", FILTER, "follow", "--store", case.store]
         sizes: dict[str, Any] = {"max_buffered": 1 << 26, "max_frame": 1 << 24, **options}
         most, spool = sizes["max_buffered"], SpoolFolder(case.store)
-        self.filter = Filter(words, (self.checkpoint.file,))
-        in_file = ["--spool", spool.path]
-        in_file += [] if most is None else ["--max-buffered", str(most)]
-        if in_memory := sizes.pop("in_memory", 0):
-            # (and in a file once that is too much)
-            self.filter.buffer(["--max-buffered", str(in_memory)])
-            self.filter.buffer_later(in_file, spool)
-        else:
-            self.filter.buffer(in_file, spool)
+        words += [] if most is None else ["--max-buffered", str(most)]
+        self.filter = Filter(words, (self.checkpoint.file,), spool=spool)
         subscription = Subscription(publications=["pgsub"])
         self.filter.note_repeats(RepeatsFile(case.store, self.checkpoint, subscription))
         self.progress, self.remembered = Progress(), Remembered(case.store)

@@ -139,8 +139,7 @@ class InTheWay(Case):
         self.goes_on()
 
     def test_a_table_of_any_size(self) -> None:
-        """It goes on in a file where it is too much for memory, and the connector has a block of it
-        at a time."""
+        """The connector has a block of it at a time."""
         rows = [insert(T, (5000 + it, "x" * 100)) for it in range(2000)]
         self.world.commit(*rows)
         waiting, push = list[int](), Upkeep.push
@@ -152,10 +151,8 @@ class InTheWay(Case):
         self.patch(Upkeep, "push", noted)
         self.patch(stream_filter, "ROOM", 8 << 10)
         self.want(T)
-        run = self.goes_on(in_memory=1 << 17, max_buffered=None)
-        in_file = f"open transactions are too much for memory: they go on in {self.store}.spool"
-        self.assertEqual(sum(in_file in it for it in self.said), 1, self.said)
-        self.assertEqual((run.progress.restarts, run.remembered.found), (1, {}))
+        run = self.goes_on(max_buffered=None)
+        self.assertEqual((run.progress.restarts, run.remembered.found), (0, {}))
         self.assertGreater(len(waiting), 200)
         self.assertLess(max(waiting), 8 << 10)
 
@@ -190,9 +187,11 @@ class InTheWay(Case):
         # (as many as the server's statistics have, of which not all had come)
         self.assertGreater(int(found[1]), 2 * 2000 * 100)
         self.assertIn("(spool 4 NoRoom)", why)
-        adding = run.progress.findings.adding
+        findings = run.progress.findings
         # (it is told at the next look at the progress)
-        self.assertTrue(run.until(lambda: adding["public.t (16385)"] == why), adding)
+        self.assertTrue(
+            run.until(lambda: findings.adding["public.t (16385)"] == why), findings.adding
+        )
         self.change()
         self.assertTrue(run.until(lambda: self.is_stored(run)), (self.said, run.raised))
         run.end()

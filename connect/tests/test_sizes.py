@@ -4,7 +4,6 @@ from __future__ import annotations
 
 import unittest
 
-from pgsub_connect.store.spool_folder import SpoolFolder
 from pgsub_connect.stream.filter_end import (
     FRAME_TOO_LARGE,
     MEMORY,
@@ -166,36 +165,6 @@ class Follows(Case):
                     self.assertEqual(
                         self.end(-9), ["warning: signal 9 ended the filter: it is started again"]
                     )
-
-    def open(self, size: int) -> None:
-        """A filter begins, and gets so many bytes of a transaction that stays open."""
-        self.follower.noting.begin_store()
-        source = Source([begin(0x100, 7), insert(1) + bytes(size)])
-        more: bool | None = True
-        while more:
-            self.child.input.pending.clear()
-            self.child.input.waiting = 0
-            more = self.take(source)
-
-    def test_memory_that_is_too_little(self) -> None:
-        """Open transactions go on in a file then: at once where the filter tells it, and once it was
-        killed twice in one of them."""
-        folder = SpoolFolder(self.store)
-        for ends, size, at in (
-            ([MEMORY], SMALL, 0),
-            ([-9, -9, -9], SMALL, 1),
-            ([MEMORY, -9, -9], SMALL - 100, None),
-        ):
-            self.child.buffer(["--max-buffered", "7"])
-            self.child.buffer_later(["--spool", folder.path], folder)
-            self.follower.life.kills.xid = 0
-            for count, status in enumerate(ends):
-                self.open(size)
-                lines = self.end(status)
-                is_told = any("too much for memory: they go on in" in it for it in lines)
-                self.assertEqual(is_told, count == at, lines)
-                self.assertIn("it is started again", lines[-1])
-            self.assertEqual(self.child.spare is None, at is not None)
 
     def test_full(self) -> None:
         self.take(Source([begin(0x100, 7), *[insert(1)] * 10]))

@@ -3,11 +3,15 @@
 from __future__ import annotations
 
 import os
+import shutil
+from collections.abc import Callable
+from errno import ENOSPC
+from functools import partial
 from pathlib import Path
 from typing import Any
 from unittest import mock
 
-from pgsub_connect.follow import spool_faults
+from pgsub_connect.follow import filter_life, spool_faults
 from pgsub_connect.status.files import status_fields
 from pgsub_connect.status.health import cures_of, faults, line_of
 from pgsub_connect.status.metrics import metrics_text
@@ -42,24 +46,6 @@ class Faults(test_passing.Case):
     def shown(self) -> dict[str, Any]:
         return status_fields(self.progress, 0.0, 1e9)
 
-    def test_too_much_for_memory(self) -> None:
-        """They go on in a file then; whole transactions are asked for where that is no way."""
-        full, folder = FilterEnded(10, "pgsub: spool 1 SpoolFull"), self.child.spool
-        assert folder
-        self.child.buffer(["--max-buffered", "7"])
-        self.child.buffer_later(["--max-buffered", "9", "--spool", folder.path], folder)
-        self.progress.spool.note_path("")
-        for way, streams in ((f"they go on in {self.path}", True), ("they come whole", False)):
-            with logged() as lines:
-                self.life.note_end(full)
-            self.assertIn(way, "\n".join(lines))
-            self.assertEqual(self.life.form.is_streaming(), streams)
-            self.assertEqual(self.child.told()[-2:], ["--spool", folder.path])
-            self.assertEqual(self.progress.spool.path, folder.path)
-        with logged() as lines, self.assertRaises(FilterEnded):
-            self.life.note_end(full)
-        self.assertIn("9 may be buffered of all that are open", "\n".join(lines))
-
     def test_what_is_told(self) -> None:
         for said, cure in (
             (NO_ROOM, f"there is no room for {self.path}: make room on that disk"),
@@ -87,18 +73,23 @@ class Faults(test_passing.Case):
         for confirmed, is_shown in ((0x500, True), (0x8FF, True), (0x900, False)):
             self.progress.stream.note_confirmed(confirmed, confirmed)
             self.assertEqual("spool_error" in self.shown(), is_shown)
-            text = f"pgsub_spool_failed{{}} {int(is_shown)}\n"
-            self.assertIn(text, metrics_text(self.progress, 1e9, {}))
+            told = metrics_text(self.progress, 1e9, {})
+            self.assertEqual("pgsub_spool_failed{} 1\n" in told, is_shown)
 
     def test_its_size_is_shown(self) -> None:
+        """Where there is any; metrics always have it."""
         Path(self.path).write_bytes(bytes(5000))
         shown = self.shown()
         self.assertEqual(shown["spool_bytes"], 5000)
         self.assertIn("5000 bytes of open transactions on the disk", line_of(shown, 0.0, []))
         self.assertIn("pgsub_spool_bytes{} 5000\n", metrics_text(self.progress, 1e9, {}))
-        os.unlink(self.path)
-        self.assertEqual(self.shown()["spool_bytes"], 0)
-        self.assertNotIn("on the disk", line_of(self.shown(), 0.0, []))
+        for empty in (partial(os.truncate, self.path, 0), partial(os.unlink, self.path)):
+            empty()
+            self.assertNotIn("spool_bytes", self.shown())
+            self.assertNotIn("on the disk", line_of(self.shown(), 0.0, []))
+            told = metrics_text(self.progress, 1e9, {})
+            self.assertIn("pgsub_spool_bytes{} 0\n", told)
+            self.assertIn("pgsub_spool_failed{} 0\n", told)
         without = Progress()
         self.assertNotIn("spool_bytes", status_fields(without, 0.0, 1e9))
         self.assertNotIn("pgsub_spool", metrics_text(without, 1e9, {}))
@@ -205,6 +196,41 @@ class Follows(adding_case.Case):
         self.assertEqual((run.raised, len(begins), run.progress.restarts), (None, 2, 1))
         self.assertTrue(any(f"{NOT_WRITTEN}: it is started again" in it for it in self.said))
         self.compare()
+
+    def full(self, count: int) -> Callable[[SpoolFolder], None]:
+        """What `begin` is where there is no folder, and so often no room for it."""
+        begin, full = SpoolFolder.begin, mock.Mock(side_effect=OSError(ENOSPC, "No space left"))
+        fails = [full] * count
+        shutil.rmtree(self.store + ".spool", ignore_errors=True)
+
+        def begins(spool: SpoolFolder) -> None:
+            with mock.patch("os.mkdir", fails.pop() if fails else os.mkdir):
+                begin(spool)
+
+        return begins
+
+    def test_no_room_for_its_folder(self) -> None:
+        """A start waits for that."""
+        self.followed()
+        self.patch(SpoolFolder, "begin", self.full(3))
+        self.patch(filter_life, "OPENED_AFTER", (0.01,))
+        self.change()
+        run = adding_case.Run(self)
+        self.assertTrue(run.until(lambda: self.is_stored(run)), self.said)
+        run.end()
+        self.assertEqual((run.raised, run.progress.restarts), (None, 0))
+        told = f"{self.store}.spool: No space left: it is tried again in"
+        self.assertEqual(sum(told in it for it in self.said), 3, self.said)
+        self.assertIn("No space left", run.progress.last_error or "")
+        self.compare()
+
+    def test_it_ends_while_its_folder_has_no_room(self) -> None:
+        self.followed()
+        self.patch(SpoolFolder, "begin", self.full(1 << 20))
+        run = adding_case.Run(self)
+        self.assertTrue(run.until(lambda: any("No space left" in it for it in self.said)))
+        run.end()
+        self.assertEqual((run.raised, run.thread.is_alive()), (None, False))
 
     def test_it_waits_for_room(self) -> None:
         self.followed()

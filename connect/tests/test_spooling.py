@@ -12,6 +12,7 @@ from unittest import mock
 
 from pgsub_connect.commands import follow
 from pgsub_connect.commands.arguments import session
+from pgsub_connect.follow import feed
 from pgsub_connect.store import spool_folder
 from pgsub_connect.store.placing import check_apart
 from pgsub_connect.store.spool_folder import SpoolFolder, judge_spool, remove_spool
@@ -169,12 +170,25 @@ class Checked(Case):
     def test_its_size_is_told(self) -> None:
         self.assertIsNone(judge_spool(self.store))
         self.put()
-        for size in (0, 5000):
-            (self.folder / "transactions").write_bytes(bytes(size))
+        self.assertIsNone(judge_spool(self.store))
+        (self.folder / "transactions").write_bytes(bytes(5000))
+        found = judge_spool(self.store)
+        assert found
+        text = f"5000 bytes of open transactions are in {self.folder}"
+        self.assertEqual((found.level, found.name, found.text), ("ok", "spool", text))
+
+    def test_another_account_asks(self) -> None:
+        """Root of a follower's store, say, or who may read that, but not enter the folder."""
+        Path(self.store).touch()
+        self.put("transactions")
+        with mock.patch("os.geteuid", lambda: os.getuid() + 1):
             found = judge_spool(self.store)
-            assert found
-            text = f"{size} bytes of open transactions are in {self.folder}"
-            self.assertEqual((found.level, found.name, found.text), ("ok", "spool", text))
+            self.assertEqual(found and found.level, "ok")
+            with mock.patch.object(spool_folder, "size_in", side_effect=PermissionError):
+                self.assertIsNone(judge_spool(self.store))
+            os.unlink(self.store)
+            found = judge_spool(self.store)
+            self.assertEqual(found and found.level, "error")
 
     def test_what_cant_be_used(self) -> None:
         self.folder.symlink_to("/tmp")
@@ -192,45 +206,29 @@ class Words(Case):
         self.assertEqual(found.words[:4], ["/bin/pgsub", "follow", "--store", self.store])
         return found
 
-    def told_of(self, child: Filter) -> dict[str, str]:
-        found = child.told()[4:]
+    def told(self, *words: str) -> dict[str, str]:
+        found = self.made(*words).told()[4:]
         return dict(zip(found[::2], found[1::2]))
 
-    def told(self, *words: str) -> dict[str, str]:
-        return self.told_of(self.made(*words))
-
-    def test_memory_first(self) -> None:
-        """And a file once that was too little. So no follower pays for it that needs none."""
-        frame = {"--max-frame": str(1 << 30)}
-        with mock.patch.object(memory_limit, "memory", lambda: 1 << 32):
-            child = self.made()
-        self.assertEqual(self.told_of(child), {"--max-buffered": str(1 << 30), **frame})
-        self.assertIsNone(child.spool)
-        spool = child.spill()
-        self.assertEqual(spool, child.spool)
-        self.assertEqual(spool and spool.path, str(self.folder / "transactions"))
-        sizes = {"--spool-memory": str(64 << 20), **frame}
-        self.assertEqual(self.told_of(child), {"--spool": spool and spool.path, **sizes})
-        self.assertEqual((child.most(), child.spill()), (None, None))
-
-    def test_any_size(self) -> None:
-        """A commit comes back part after part, also where there is a feed."""
+    def test_a_file_from_the_beginning(self) -> None:
+        """Of any size, also where there is a feed: a commit comes back part after part."""
+        path = str(self.folder / "transactions")
         for feed in ((), ("--feed", str(self.folder) + ".feed")):
             for known in (1 << 28, 1 << 30, 1 << 33, None):
                 with mock.patch.object(memory_limit, "memory", lambda: known):  # noqa: B023
-                    self.assertEqual(self.made(*feed, "--spool-memory", "1MB").most(), None)
-                    child = self.made(*feed)
-                    self.assertIsNotNone(child.spill())
-                    self.assertEqual(child.most(), None)
+                    told, child = self.told(*feed), self.made(*feed)
+                stays = min(64 << 20, (known or 1 << 40) // 8)
+                frame = {"--max-frame": str(min(1 << 30, (known or 1 << 40) // 2))}
+                self.assertEqual(told, {"--spool": path, "--spool-memory": str(stays), **frame})
+                self.assertEqual(child.spool and child.spool.path, path)
 
-    def test_a_limit_above_memory(self) -> None:
+    def test_a_limit_of_both(self) -> None:
         """What an operator allows in all is no more memory than there is."""
-        for most, goes_on in (((1 << 30) - 1, False), (1 << 30, False), (1 << 31, True)):
+        for most in ((1 << 26) - 1, 1 << 31):
             with mock.patch.object(memory_limit, "memory", lambda: 1 << 32):
-                child = self.made("--max-buffered", str(most))
-                self.assertEqual(self.told_of(child)["--max-buffered"], str(min(most, 1 << 30)))
-                self.assertEqual(child.spill() is not None, goes_on)
-                self.assertEqual(self.told_of(child)["--max-buffered"], str(most))
+                told = self.told("--max-buffered", str(most))
+            self.assertEqual(told["--max-buffered"], str(most))
+            self.assertEqual(told["--spool-memory"], str(64 << 20))
 
     def test_what_a_killed_run_left(self) -> None:
         for words in ((), ("--spool-memory", "no"), ("--spool-memory", "1MB")):
@@ -241,8 +239,7 @@ class Words(Case):
     def test_no_file(self) -> None:
         with mock.patch.object(memory_limit, "memory", lambda: 1 << 30):
             told = self.told("--spool-memory", "no")
-            child = self.made("--spool-memory", "no")
-            self.assertEqual((child.spool, child.spill()), (None, None))
+            self.assertIsNone(self.made("--spool-memory", "no").spool)
         half = str(1 << 29)
         self.assertEqual(told, {"--max-buffered": half, "--max-frame": half})
 
@@ -273,19 +270,24 @@ class Words(Case):
                 self.assertEqual(limits, BufferLimits(most, longest))
 
     def test_what_a_follower_leaves(self) -> None:
-        """No folder, unless something is in it; its size is shown from the start."""
+        """No folder, unless something is in it."""
         words = ["follow", "--store", self.store, "--dsn", "", "--pgsub", FAKE]
-        spooled = [*words, "--spool-memory", "1MB"]
-        for names in ((), ("mine",)):
-            parts = follow.made(settled(spooled), mock.Mock(file=0))
-            self.assertEqual(parts.common.progress.spool.bytes(), 0)
-            self.put(*names)
-            dataclasses.replace(parts, threads=()).finish()
-            self.assertEqual(self.folder.exists(), bool(names))
-        for more in (), ("--spool-memory", "no"):
+        for more in ((), ("--spool-memory", "1MB"), ("--spool-memory", "no")):
+            for names in ((), ("mine",)):
+                parts = follow.made(settled([*words, *more]), mock.Mock(file=0))
+                self.put(*names)
+                dataclasses.replace(parts, threads=()).finish()
+                self.assertEqual(self.folder.exists(), bool(names) or "no" in more)
+                remove_spool(str(self.folder))
+
+    def test_its_size_is_shown_from_the_start(self) -> None:
+        words = ["follow", "--store", self.store, "--dsn", "", "--pgsub", FAKE]
+        for more, size in (((), 3), (("--spool-memory", "no"), None)):
             parts = follow.made(settled([*words, *more]), mock.Mock(file=0))
-            self.assertIsNone(parts.common.progress.spool.bytes())
+            self.put("transactions")
+            self.assertEqual(parts.common.progress.spool.bytes(), size)
             dataclasses.replace(parts, threads=()).finish()
+            remove_spool(str(self.folder))
 
     def test_a_start_is_refused_before_anything_is_made(self) -> None:
         self.folder.touch()
@@ -304,7 +306,7 @@ class Started(test_filtering.Case):
     def filter(self, *words: str) -> Filter:
         self.spool = SpoolFolder(self.store)
         words = words or ("/usr/bin/python3", "-S", "-E", FAKE, "follow")
-        told = [*words, "--store", self.store, "--spool", self.spool.path]
+        told = [*words, "--store", self.store]
         found = Filter(told, (), left=LeftFile(self.store, 30), spool=self.spool)
         self.addCleanup(found.kill)
         return found
@@ -327,6 +329,17 @@ class Started(test_filtering.Case):
             ends(child)
             self.assertEqual(self.sizes(), {})
             os.unlink(self.store)
+
+    def test_the_position_alone_needs_no_file(self) -> None:
+        """No folder is made for a filter that is asked for nothing else."""
+        child = self.filter()
+        child.start()
+        child.finish()
+        self.end(child)
+        self.spool.remove()
+        check = mock.Mock(side_effect=[None] * 20)
+        self.assertEqual(feed.opened_at(child, check), child.confirmed())
+        self.assertFalse(os.path.exists(self.spool.folder))
 
     def test_a_file_that_cant_be_made(self) -> None:
         """The filter says so before it opens its store; another try may do."""

@@ -291,7 +291,7 @@ class Words(Quiet):
     def test_words_of_the_filter(self) -> None:
         words = ["/bin/pgsub", "follow", "--store", "/nonexistent/s", "--max-frame", "5000"]
         spool = ["--spool", "/nonexistent/s.spool/transactions", "--spool-memory", "1024"]
-        more = [*spool, "--max-buffered", "5000"]
+        more = ["--max-buffered", "5000", *spool]
         self.assertEqual(self.filter_words(), [*words, *more])
         for pages in ("100", "4294967294"):
             told = self.filter_words("--cache", pages)

@@ -35,10 +35,10 @@ from ..store.placing import OF_STORE, check_meant
 from ..store.repeats_file import RepeatsFile
 from ..store.spool_folder import SUFFIX as SPOOL, SpoolFolder, check_spool, remove_spool
 from ..stream.common import Common, Tolerance
-from ..stream.filter import MAX_BUFFERED, SPOOL as SPOOL_WORD, SPOOL_MEMORY, WATCH, Filter
+from ..stream.filter import MAX_BUFFERED, WATCH, Filter
 from ..stream.filter_end import FilterEnded
 from ..stream.left_file import LeftFile
-from ..stream.memory_limit import default_buffered, default_in_memory
+from ..stream.memory_limit import default_in_memory
 from .arguments import session, words
 from .arguments.feed import FeedOptions, settled_feed
 from .arguments.following import check_numeric
@@ -301,30 +301,20 @@ def make_filter(options: Options, checkpoint: Checkpoint) -> Filter:
     told = [options.pgsub, "follow", "--store", meant(options.store)]
     told += ["--max-frame", str(options.max_frame)]
     told += ["--cache", str(options.cache)] if options.cache else []
-    left = LeftFile(options.store, options.check_every)
-    child = Filter(told, (checkpoint.file,), options.proto, options.mode, left)
-    begin_buffering(options, child)
-    return child
+    told += [MAX_BUFFERED, str(options.max_buffered)] if options.is_bounded else []
+    left, spool = LeftFile(options.store, options.check_every), make_spool(options)
+    return Filter(told, (checkpoint.file,), options.proto, options.mode, left, spool)
 
 
-def begin_buffering(options: Options, child: Filter) -> None:
-    """Has the filter buffer open transactions in memory, or in memory and a file; unless it is said
-    which, in a file once they were too much for memory, since a file costs each change a little."""
-    spool, most = SpoolFolder(options.store), options.max_buffered
+def make_spool(options: Options) -> SpoolFolder | None:
+    """Where open transactions go on that memory doesn't hold, None where all stay there."""
+    said = options.spool_memory
+    stays = default_in_memory() if said in (0, words.NO) else int(said)
+    spool = SpoolFolder(options.store, stays)
     # (what a killed run has left)
     spool.end()
     spool.remove()
-    stays = options.spool_memory or default_in_memory()
-    in_file = [SPOOL_WORD, spool.path, SPOOL_MEMORY, str(stays)]
-    in_file += [MAX_BUFFERED, str(most)] if options.is_bounded else []
-    if options.spool_memory == words.NO:
-        return child.buffer([MAX_BUFFERED, str(most)])
-    if options.spool_memory:
-        return child.buffer(in_file, spool)
-    first = min(most, default_buffered())
-    child.buffer([MAX_BUFFERED, str(first)])
-    if not options.is_bounded or most > first:
-        child.buffer_later(in_file, spool)
+    return None if said == words.NO else spool
 
 
 def begin_watching(options: Options, common: Common, child: Filter) -> None:

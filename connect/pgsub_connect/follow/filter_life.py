@@ -1,7 +1,6 @@
 """The filter's life: it is started, serves session after session, and ends; what that means."""
 
 import contextlib
-import dataclasses
 import itertools
 
 from pgsub_feed import log
@@ -12,6 +11,7 @@ from pgsub_feed.texts import counted
 
 from ..drift.findings import UNWATCHED
 from ..errors import FilterFault
+from ..store.spool_folder import NoFolder
 from ..stream.awake import Awake, Numbers, Served
 from ..stream.filter_end import (
     BREACH,
@@ -64,9 +64,19 @@ class FilterLife:
         server is asked meanwhile."""
         if not self.filter.is_running():
             self.progress.enter("opening the store")
-            self.filter.launch()
+            self.launch_filter()
         if not self.filter.trusts:
             self.start()
+
+    def launch_filter(self) -> None:
+        """Starts it, as soon as a disk that is full has room for the folder of open transactions."""
+        for tried in itertools.count():
+            try:
+                return self.filter.launch()
+            except NoFolder as failed:
+                self.progress.note_error(str(failed))
+                self.rest_after(tried, str(failed))
+        raise AssertionError
 
     def start(self) -> None:
         """Waits until the filter has opened its store, and starts it first unless it runs."""
@@ -112,11 +122,14 @@ class FilterLife:
                 if not (is_unusable(ended.said) or ended.status == UNOPENED):
                     raise
                 self.progress.note_restart(str(ended))
-                why = str(ended) if is_waited_for else IN_USE
-            delay = OPENED_AFTER[min(tried, len(OPENED_AFTER) - 1)]
-            log.warning(f"{why}: it is tried again in {counted(delay, 'second')}")
-            rest(delay, self.ending.check_stop, SLEEP)
+                self.rest_after(tried, str(ended) if is_waited_for else IN_USE)
         raise AssertionError
+
+    def rest_after(self, tried: int, why: str) -> None:
+        """Waits, longer after each try to open the store."""
+        delay = OPENED_AFTER[min(tried, len(OPENED_AFTER) - 1)]
+        log.warning(f"{why}: it is tried again in {counted(delay, 'second')}")
+        rest(delay, self.ending.check_stop, SLEEP)
 
     def note_unusable(self, said: str) -> None:
         """The file of noted commits can't be used: it is made anew, or else none are noted."""
@@ -183,7 +196,7 @@ class FilterLife:
         if self.spool.is_again(ended):
             self.form.stop_streaming(TOO_MUCH)
         why = MANY if ended.said == TOO_MANY_OPEN else TOO_MUCH
-        if not (ended.status == SPOOL_FULL and (self.spill() or self.form.stop_streaming(why))):
+        if not (ended.status == SPOOL_FULL and self.form.stop_streaming(why)):
             largest = self.noting.largest()
             ended.note_cure(self.cure_of(ended, largest))
             if ended.cure:
@@ -196,29 +209,14 @@ class FilterLife:
                     # (that was found, and is told as such)
                     self.watch.show()
                 raise ended
-            if self.kills.are_of_memory(ended, *largest) and self.spill():
-                self.kills = Kills(self.limits)
-            else:
-                self.kills.note(ended, *largest)
+            self.kills.note(ended, *largest)
             log.warning(f"{ended}: it is started again")
         self.progress.note_restart(ended.with_cure())
-
-    def spill(self) -> bool:
-        """Has open transactions go on in a file from now on. Returns false where they do so, or are
-        to stay in memory."""
-        if not (spool := self.filter.spill()):
-            return False
-        log.warning(f"open transactions are too much for memory: they go on in {spool.path}")
-        self.progress.spool.note_path(spool.path)
-        return True
 
     def cure_of(self, ended: FilterEnded, largest: tuple[int, int]) -> str:
         """What is to be done about a filter's end, "" where nothing is known. `largest`: the
         largest transaction that isn't stored, and its bytes."""
-        limits, most = self.limits, self.filter.most()
-        if ended.status == SPOOL_FULL and most is not None:
-            limits = dataclasses.replace(limits, max_buffered=most)
-        cure = limit_text(ended, limits, largest, self.noting.longest)
+        cure = limit_text(ended, self.limits, largest, self.noting.longest)
         cure = cure or self.spool.note(ended)
         return cure or (self.feeding.text_of(ended.said) if self.feeding else "")
 

@@ -100,19 +100,23 @@ class Table:
     def sql_name(self) -> str:
         return f"{identifier(self.namespace)}.{identifier(self.name)}"
 
-    def query(self) -> str:
-        """The COPY of its published rows; with partitions, and without other children."""
+    def query(self, order: str = "", within: str = "") -> str:
+        """The COPY of its published rows; with partitions, and without other children. `order`: by
+        these terms; `within`: those alone for which this is true."""
         names = ", ".join(identifier(column.name) for column in self.columns)
-        return f"COPY (SELECT {names} {self.source()}) TO STDOUT"
+        ordered = f" ORDER BY {order}" if order else ""
+        return f"COPY (SELECT {names} {self.source(within)}{ordered}) TO STDOUT"
 
-    def source(self) -> str:
+    def source(self, within: str = "") -> str:
         """The part of a query for the rows that are published: none of unlogged partitions."""
         if self.leaves and self.leaves.foreign:
             return f"FROM ({self.logged_rows(self.leaves.logged)}) AS logged"
         conditions = [self.row_filter] if self.row_filter else []
+        more = [within] if within else []
         if self.leaves:
-            unlogged = ", ".join(map(str, self.leaves.unlogged))
-            conditions = [*(f"({it})" for it in conditions), f"tableoid NOT IN ({unlogged})"]
+            more.append(f"tableoid NOT IN ({', '.join(map(str, self.leaves.unlogged))})")
+        if more:
+            conditions = [*(f"({it})" for it in conditions), *more]
         only = "" if self.kind == "p" else "ONLY "
         where = f" WHERE {' AND '.join(conditions)}" if conditions else ""
         return f"FROM {only}{self.sql_name()}{where}"

@@ -80,7 +80,7 @@ def of_spool(it: Progress) -> Told:
     size = "How large the file of open transactions is."
     failed = "Whether that file has failed, and what it lacked isn't stored yet."
     return (
-        ("pgsub_spool_bytes", size, it.spool.bytes()),
+        ("pgsub_spool_bytes", size, it.spool.bytes() or 0),
         ("pgsub_spool_failed", failed, int(bool(it.spool.fault(it.stream.confirmed)))),
     )
 

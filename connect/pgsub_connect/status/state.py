@@ -229,14 +229,11 @@ class SpoolState:
         return text if confirmed < until else ""
 
     def bytes(self) -> int | None:
-        """How large it is."""
-        if not self.path:
-            return None
+        """How large it is, None where nothing is in it, or no filter runs."""
         try:
-            return os.stat(self.path).st_size
+            return os.stat(self.path).st_size or None
         except OSError:
-            # (no filter runs)
-            return 0
+            return None
 
 
 class FeedState:

@@ -23,17 +23,23 @@ MODE = 0o700
 FLAGS = os.O_RDONLY | os.O_DIRECTORY | os.O_NOFOLLOW | os.O_CLOEXEC
 
 
-class SpoolFolder:
-    """It. `had`: how many bytes the disk had for the file as the last filter ended."""
+class NoFolder(Passing):
+    """It can't be made for now, as on a full disk."""
 
-    def __init__(self, store: str) -> None:
+
+class SpoolFolder:
+    """It. `in_memory`: how many bytes of open transactions stay there; `had`: how many the disk had
+    for the file as the last filter ended."""
+
+    def __init__(self, store: str, in_memory: int = 0) -> None:
+        self.in_memory = in_memory
         self.folder = os.path.abspath(store + SUFFIX)
         self.path = os.path.join(self.folder, FILE)
         self.had = 0
 
     def begin(self) -> None:
         """A filter is about to begin: the folder is made or emptied. A FileError names what isn't
-        a folder of this account; Passing says why it can't be made for now."""
+        a folder of this account; NoFolder says why it can't be made for now."""
         try:
             with contextlib.suppress(FileExistsError):
                 os.mkdir(self.folder, MODE)
@@ -45,7 +51,7 @@ class SpoolFolder:
                         os.fchmod(folder, MODE)
                 empty(folder)
         except OSError as failed:
-            kind = Passing if failed.errno in PASSING_ERRORS else FileError
+            kind = NoFolder if failed.errno in PASSING_ERRORS else FileError
             raise kind(f"{self.folder}: {failed.strerror}") from None
 
     def end(self) -> None:
@@ -73,9 +79,10 @@ def check_spool(store: str) -> None:
         check_own(folder)
 
 
-def check_own(folder: str) -> None:
-    about = os.lstat(folder)
-    if stat.S_ISDIR(about.st_mode) and about.st_uid == os.geteuid():
+def check_own(folder: str, account: int | None = None) -> None:
+    """Rejects what isn't a folder of this account, by default of the one that runs this."""
+    about, own = os.lstat(folder), os.geteuid() if account is None else account
+    if stat.S_ISDIR(about.st_mode) and about.st_uid == own:
         return
     what = f"a folder of another account ({about.st_uid})"
     if stat.S_ISLNK(about.st_mode):
@@ -122,13 +129,27 @@ def remove_spool(folder: str) -> None:
 
 
 def judge_spool(store: str) -> Result | None:
-    """Whether a filter can use the folder, and how much is in it; nothing where there is none."""
+    """Whether a filter of the store's account can use the folder, and how much is in it; nothing
+    where that is nothing, or isn't known."""
     folder = os.path.abspath(store + SUFFIX)
     if not os.path.lexists(folder):
         return None
     try:
-        check_own(folder)
+        check_own(folder, account_of(store))
         size = size_in(folder)
+    except PermissionError:
+        # (who asks isn't that account)
+        return None
     except (FileError, OSError) as failed:
         return error("spool", str(failed))
+    if not size:
+        return None
     return ok("spool", f"{counted(size, 'byte')} of open transactions are in {folder}")
+
+
+def account_of(store: str) -> int | None:
+    """Whose a store is, None where it isn't there."""
+    try:
+        return os.stat(store).st_uid
+    except FileNotFoundError:
+        return None

@@ -59,11 +59,8 @@ class Filter:
         # where it is to note commits, and whether the one that runs does
         self.repeats: RepeatsFile | None = None
         self.compares = False
-        # what it is told of buffering, and where changes go on that its memory doesn't hold, None
-        # where all stay there; and both for the next one, once that was too much for memory
-        self.buffering: list[str] = []
+        # where changes go on that its memory doesn't hold, None where all stay there
         self.spool = spool
-        self.spare: tuple[list[str], SpoolFolder] | None = None
         # by which one trusts what the one before it left; and whether the one that runs does
         self.left, self.trusts = left, False
         # the last status, and the beginning of the next one
@@ -85,30 +82,11 @@ class Filter:
     def add_words(self, words: Sequence[str]) -> None:
         self.words += words
 
-    def buffer(self, words: list[str], spool: SpoolFolder | None = None) -> None:
-        """The next one is told this of buffering. `spool`: where changes go on, if anywhere."""
-        self.buffering, self.spool = words, spool
-
-    def buffer_later(self, words: list[str], spool: SpoolFolder) -> None:
-        """Those after `spill` are told this."""
-        self.spare = words, spool
-
-    def spill(self) -> SpoolFolder | None:
-        """Open transactions were too much for memory: those of the next one go on in a file.
-        Returns where, None where they do so already, or are to stay in memory."""
-        if not self.spare:
-            return None
-        (self.buffering, self.spool), self.spare = self.spare, None
-        return self.spool
-
     def told(self) -> list[str]:
         """All that is told to each."""
-        return [*self.words, *self.buffering]
-
-    def most(self) -> int | None:
-        """How many bytes of open transactions it buffers at most, None where it isn't told."""
-        words = self.told()
-        return int(words[words.index(MAX_BUFFERED) + 1]) if MAX_BUFFERED in words else None
+        if not self.spool:
+            return self.words
+        return [*self.words, SPOOL, self.spool.path, SPOOL_MEMORY, str(self.spool.in_memory)]
 
     def is_to_stop(self) -> bool:
         """Whether it is to end where its server breaks a rule."""

@@ -75,11 +75,6 @@ class Kills:
     def __init__(self, limits: BufferLimits) -> None:
         self.limits, self.xid = limits, 0
 
-    def are_of_memory(self, ended: FilterEnded, xid: int, size: int) -> bool:
-        """Whether a filter ended for its memory in its largest transaction: it said so, or was
-        killed there before."""
-        return size >= SMALL and (ended.status == MEMORY or ended.status < 0 and xid == self.xid)
-
     def note(self, ended: FilterEnded, xid: int, size: int) -> None:
         """Notes a filter's end in its largest transaction. Raises at the second one in that."""
         if ended.status >= 0 or size < SMALL:

@@ -48,7 +48,7 @@ class SizeOptions:
 
     pgsub: str = program_option()
     spool_memory: int | str = option(
-        "how much of open transactions stays in memory, where the rest goes on in a file beside the store; no: all of it, within --max-buffered (default: all, and once that was too much, 64MB, at most an eighth of the memory)",
+        "how much of open transactions stays in memory, where the rest goes on in a file beside the store; no: all of it, within --max-buffered (default: 64MB, at most an eighth of the memory)",
         0,
         type=size_or_no,
         value="SIZE|no",
