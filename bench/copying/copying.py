@@ -34,32 +34,53 @@ class Run(NamedTuple):
     program: int = 0
 
 
-class Tables:
-    """Tables of one shape: a key and three texts."""
+class Shape(NamedTuple):
+    """What the rows of a table are: its key's type, the key as a term of `it`, which rises, and how
+    many texts of some ten characters there are beside it."""
 
-    def __init__(self, count: int, rows: int) -> None:
+    type: str
+    key: str
+    texts: int
+
+
+SHAPES = {
+    "rising": Shape("bigint", "it", 3),
+    "random": Shape("text", "md5(it::text)", 3),
+    "wide": Shape("bigint", "it", 49),
+}
+
+
+class Tables:
+    """Tables of one shape."""
+
+    def __init__(self, count: int, rows: int, shape: Shape) -> None:
         self.names, self.rows = [f"copied_{it}" for it in range(1, count + 1)], rows
+        self.shape = shape
+        self.texts = [f"text_{at}" for at in range(1, shape.texts + 1)]
 
     def make(self, cluster: Cluster, database: str) -> None:
+        texts = ", ".join(f"{it} text" for it in self.texts)
         cluster.run(
             *(
-                f"CREATE TABLE {it} (id bigint PRIMARY KEY, a text, b text, c text)"
+                f"CREATE TABLE {it} (id {self.shape.type} PRIMARY KEY, {texts})"
                 for it in self.names
             ),
             database=database,
         )
 
     def fill(self, servers: Servers) -> None:
+        texts = ", ".join(f"'text {at} ' || it % 100000" for at in range(1, len(self.texts) + 1))
         for it in self.names:
             servers.session.run(
-                f"INSERT INTO {it} SELECT it, 'text a ' || it, 'text b ' || it, 'text c ' || it"
+                f"INSERT INTO {it} SELECT {self.shape.key}, {texts}"
                 f" FROM generate_series(1, {self.rows}) it",
                 f"ANALYZE {it}",
             )
 
     def bytes(self, servers: Servers) -> int:
-        """What COPY writes of them: three tabs and a line feed a row, too."""
-        lengths = " + ".join(f"length({it}::text)" for it in ("id", "a", "b", "c")) + " + 4"
+        """What COPY writes of them: a tab or a line feed after each value, too."""
+        names = ["id", *self.texts]
+        lengths = " + ".join([*(f"length({it}::text)" for it in names), str(len(names))])
         return sum(
             int(servers.session.value(f"SELECT sum({lengths}) FROM {it}")) for it in self.names
         )
@@ -164,7 +185,7 @@ def run(servers: Servers, tables: Tables, words: argparse.Namespace) -> None:
     rows, size = len(tables.names) * tables.rows, tables.bytes(servers)
     version = servers.session.value("SHOW server_version")
     print(
-        f"{rows:,} rows in {len(tables.names)} tables, {size / 1e6:.0f} MB as COPY has them; PostgreSQL {version}; turns: {words.turns}.\n\n"
+        f"{rows:,} rows in {len(tables.names)} {'table' if len(tables.names) == 1 else 'tables'}, {words.shape}, {size / 1e6:.0f} MB as COPY has them; PostgreSQL {version}; turns: {words.turns}.\n\n"
         "| Copy | seconds, median | in each turn | rows/s | MB/s | memory: connector | program |\n|---|---|---|---|---|---|---|",
     )
     for name, taken in runs.items():
@@ -182,9 +203,15 @@ def main() -> None:
         help="how many rows each table has (default: 500000)",
     )
     add("--tables", type=int, default=4, metavar="N", help="how many tables there are (default: 4)")
+    add(
+        "--shape",
+        choices=SHAPES,
+        default="rising",
+        help="rising keys, random ones, or fifty columns with rising keys (default: rising)",
+    )
     add("--turns", type=int, default=3, metavar="N", help="how often each takes them (default: 3)")
     words = parser.parse_args()
-    tables = Tables(words.tables, words.rows)
+    tables = Tables(words.tables, words.rows, SHAPES[words.shape])
     with started(parser, words, tables.make) as servers:
         run(servers, tables, words)
 

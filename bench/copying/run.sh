@@ -7,6 +7,7 @@
 #   --root PATH        the root folder in which the servers run by chroot (default: none)
 #   --rows N           how many rows each table has (default: 500000)
 #   --tables N         how many tables there are (default: 4)
+#   --shape NAME       rising: a key that rises, and three texts; random: keys that don't; wide: fifty columns (default: rising)
 #   --turns N          how often each takes them (default: 3)
 #
 # In turn: COPY of each table to a file, pg_dump, the tables' synchronisation of a PostgreSQL subscription, and the first copy of

@@ -4,7 +4,7 @@
 # Seconds and the peak of memory, with 2,000 pages of the file in memory, of stores of so many rows (default: 10000 100000 1000000).
 source "$(dirname "$0")/../common.sh"
 [ $# -gt 0 ] || set -- 10000 100000 1000000
-build opening pglsn pgtuple pglogical pgrel pgapply pgledger pgmemory pgopening pgtables pgrows pgverify pgstore sqlite sqlite_disk
+build opening pglsn pgtuple pglogical pgrel pgapply pgledger pgmemory pgopening pgtables pgrows pgverify pgencoded pgchanging pgreshaping pgdumping pgadopt pgstore sqlite sqlite_disk
 echo "| Rows | Seconds | MB |"
 echo "|---|---|---|"
 for rows in "$@"; do

@@ -5,7 +5,7 @@
 # most kilobytes that the program held, with the rows read and without. Needs /usr/bin/time.
 source "$(dirname "$0")/../common.sh"
 [ $# -gt 0 ] || set -- 1000 10000 100000
-build reading pglsn pgtuple pglogical pgrel pgapply pgledger pgmemory pgopening pgtables pgrows pgverify pgstore sqlite
+build reading pglsn pgtuple pglogical pgrel pgapply pgledger pgmemory pgopening pgtables pgrows pgverify pgencoded pgchanging pgreshaping pgdumping pgadopt pgstore sqlite
 for n in "$@"; do
     for _ in 1 2 3 4 5; do
         /usr/bin/time -o "$work/most" -f %M "$program" rows "$n" | awk '{ print $NF }'

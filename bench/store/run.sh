@@ -4,7 +4,7 @@
 # The quickest and the middle one of five runs, in nanoseconds of processor time a change, of so many changes (default: 1000 10000 100000).
 source "$(dirname "$0")/../common.sh"
 [ $# -gt 0 ] || set -- 1000 10000 100000
-build storing pglsn pgtuple pglogical pgrel pgapply pgledger pgmemory pgopening pgtables pgrows pgverify pgstore sqlite
+build storing pglsn pgtuple pglogical pgrel pgapply pgledger pgmemory pgopening pgtables pgrows pgverify pgencoded pgchanging pgreshaping pgdumping pgadopt pgstore sqlite
 for _ in 1 2 3 4 5; do
     "$program" "$@" >> "$work/times"
 done

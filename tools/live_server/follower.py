@@ -120,6 +120,9 @@ class Supervisor(threading.Thread):
         self.starts = 0
         # what its log may not have
         self.of_rules: Sequence[str] = OF_RULES
+        # in how many seconds a filter ends that a killed connector has left: once it has stored
+        # what it reads
+        self.ends_within = 60.0
 
     def run(self) -> None:
         while not self.ended.is_set() and not self.failure:
@@ -162,6 +165,7 @@ class Supervisor(threading.Thread):
             wait_until(
                 lambda: all(map(has_ended, (self.child.pid, *filters))),
                 "the end of the connector and its filter",
+                self.ends_within,
             )
             look()
             return True

@@ -84,13 +84,19 @@ class Size:
 @dataclasses.dataclass(frozen=True)
 class Form:
     """How it is followed. `memory`: how many megabytes connector, filter and tables may take, 0 for
-    any; `in_memory`: how many bytes of open transactions stay there, 0 for what is the default."""
+    any; `in_memory`: how many bytes of open transactions stay there, 0 for what is the default;
+    `killed_in`: in which steps parts are killed, none for all."""
 
     proto: int = 2
     fed: bool = True
     kills: int = 0
     memory: int = 0
     in_memory: int = 0
+    killed_in: tuple[str, ...] = ()
+
+    def kills_in(self, name: str) -> int:
+        """How often something is killed in a step."""
+        return self.kills if not self.killed_in or name in self.killed_in else 0
 
 
 TABLES = ("large", "nested", "beside", "wide", "mark")
@@ -218,6 +224,7 @@ class Large(Tables):
         supervisor = Supervisor(self.words(*more), log)
         # (a million changes at once aren't watched)
         supervisor.of_rules = OF_RULES[:2]
+        supervisor.ends_within = self.seconds()
         supervisor.begin()
         return supervisor
 
@@ -272,7 +279,7 @@ class Large(Tables):
         with ThreadPoolExecutor(1) as pool:
             doing = pool.submit(STEPS[name], self)
             doing.add_done_callback(lambda _: ended.append(time.monotonic()))
-            self.kill_often(doing)
+            self.kill_often(doing, self.form.kills_in(name))
             doing.result()
         made = ended[0] - began
         self.wait_for(self.end())
@@ -311,12 +318,13 @@ class Large(Tables):
         fed = "with a feed and tables" if self.form.fed else "without a feed"
         return f"{self.size.rows} rows, version {self.form.proto}, {fed}; limit of memory: {limit}"
 
-    def kill_often(self, doing: Future[None]) -> None:
+    def kill_often(self, doing: Future[None], kills: int) -> None:
         """Kills filter and connector at random moments, some of them once the server has done its
-        part."""
-        reach = 0.5 + self.size.rows / 50_000
-        for at in range(self.form.kills):
-            time.sleep(self.rng.random() * reach)
+        part. After each of them all comes again: so they are at all scales, the next one a moment
+        later or after most of what there is to do."""
+        reach = 2 + self.size.rows / 16_500
+        for at in range(kills):
+            time.sleep(0.5 * reach ** self.rng.random())
             if doing.done() and doing.exception():
                 return
             self.kill("connector" if (at + self.starts) % 2 else "filter")

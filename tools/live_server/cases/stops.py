@@ -162,8 +162,8 @@ def heard_while_connecting(place: Place) -> None:
 
 
 def filter_killed(place: Place) -> None:
-    """A filter that is killed twice in the same transaction goes on in a file. Killed twice again it
-    ends the following, and its size is told."""
+    """A filter that is killed twice in the same transaction ends the following, and the
+    transaction's size is told."""
     place.run(
         "CREATE TABLE large (id int PRIMARY KEY, word text)",
         "CREATE PUBLICATION pgsub FOR TABLE large",
@@ -175,14 +175,12 @@ def filter_killed(place: Place) -> None:
     proxy = place.proxy()
     proxy.limit = 4_000_000
     child = place.start("--proto", "1", dsn=place.dsn(proxy.folder))
-    for stops in (1, 2, 3, 4):
+    for stops in (1, 2):
         wait_until(lambda stops=stops: proxy.stopped == stops, "passing on", 60, child.check)  # type: ignore[misc]
         time.sleep(1)
         for pid in child.filters():
             os.kill(pid, signal.SIGKILL)
     place.has_ended(child, REJECTED, "twice in the transaction", 60)
-    if "they go on in" not in child.said():
-        raise Failed(f"it doesn't go on in a file: {child.said()}")
     if "bytes" not in child.said():
         raise Failed(f"it doesn't tell the size: {child.said()}")
     place.follow()
