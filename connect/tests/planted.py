@@ -771,6 +771,13 @@ BUGS = (
         ("test_row_order",),
     ),
     Bug(
+        "commits wait while the rows of an added table are sorted",
+        "pgsub_connect/add/turn.py",
+        "self.size = 0 if is_waited_for else size",
+        "self.size = size",
+        ("test_adding",),
+    ),
+    Bug(
         "a row filter isn't asked beside a part's pages",
         "pgsub_connect/server/catalog.py",
         'conditions = [*(f"({it})" for it in conditions), *more]',

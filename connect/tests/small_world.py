@@ -198,6 +198,9 @@ class WorldSource:
     world: World
     hook: Callable[[str], None] = staticmethod(lambda name: None)
     open = 0
+    # for which standbys commits wait, and what was read of tables
+    waited_for = ""
+    copied: list[str] = []
 
     def __init__(
         self, subscription: object, store: str, known: object, check: Check, purpose: str
@@ -220,7 +223,10 @@ class WorldSource:
         return 4711
 
     def standbys(self) -> str:
-        return ""
+        return self.waited_for
+
+    def run(self, command: str) -> None:
+        """(Its savepoints have nothing to go back to.)"""
 
     def make_slot(self, seconds: float, check_end: Check | None = None) -> tuple[int, str]:
         (check_end or self.check)()
@@ -240,6 +246,7 @@ class WorldSource:
 
     def copied_blocks(self, command: str, size: int) -> Iterator[list[bytes]]:
         self.hook("COPY")
+        self.copied.append(command)
         lines = self.lines.get(self.tables[0].oid, [])
         for at in range(0, len(lines), 10):
             self.hook("block")

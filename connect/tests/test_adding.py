@@ -11,6 +11,7 @@ from unittest import mock
 from pgsub_connect.add import replacement
 from pgsub_connect.add.adder import Adder
 from pgsub_connect.add.replacement import Rows
+from pgsub_connect.copy import row_order
 from pgsub_connect.drift.findings import About
 from pgsub_connect.drift.remembered import Remembered
 from pgsub_connect.errors import NoSlot, ServerError
@@ -35,6 +36,24 @@ class Added(Case):
         self.assertIn("public.t: 27 rows as of", " ".join(self.said))
         self.assertIn("adding public.t: 10 rows, 0 a second", self.said)
         self.assertIn("opening the store: 0 of 0 MB, 0 a second", self.said)
+
+    def test_rows_in_the_order_of_the_key(self) -> None:
+        """Unless there are few, or commits wait for the follower."""
+        self.patch(WorldSource, "copied", copied := list[str]())
+        self.followed()
+        for least, waited_for, is_sorted in (
+            (1, "", True),
+            (1 << 20, "", False),
+            (1, "*", False),
+        ):
+            with self.subTest(least=least, waited_for=waited_for):
+                self.patch(row_order, "LEAST", least)
+                self.patch(WorldSource, "waited_for", waited_for)
+                self.spoil()
+                self.want(T)
+                self.change()
+                self.goes_on()
+                self.assertEqual("ORDER BY" in copied[-1], is_sorted, copied)
 
     def test_a_request_while_it_runs(self) -> None:
         """The session begins anew with whole transactions, and at the end anew without."""

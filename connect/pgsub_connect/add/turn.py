@@ -1,5 +1,6 @@
 """The table that is added next: its definition, its rows at a slot's LSN, and their sender."""
 
+import itertools
 import time
 from collections.abc import Callable, Iterable
 from functools import partial
@@ -8,6 +9,7 @@ from pgsub_feed.errors import Passing
 from pgsub_feed.log import Meter
 from pgsub_feed.relation import Relation
 
+from ..copy.row_order import runs_of
 from ..copy.source import Source
 from ..copy.table_reader import BLOCK
 from ..server.catalog import Table
@@ -38,6 +40,8 @@ class Turn:
         self.is_gone = False
         # about how many rows it has, where the server knows that
         self.estimated: int | None = None
+        # the bytes of its files at the server, 0 where its rows are read as they lie
+        self.size = 0
         # what makes the slot while the stream goes on
         self.making: Making | None = None
         # what was found of the table before its rows were read
@@ -54,12 +58,14 @@ class Turn:
         assert self.source
         self.table = self.source.narrow(self.oid, SHORT_LOCK if is_waited_for else LOCK)
         self.is_gone = self.table is None
-        if self.table:
-            self.estimated = estimated_rows(self.source.plain, [self.table])
-        if self.table and is_waited_for:
-            sizes = sizes_of(self.source.plain, [self.table])
-            if why := too_long(self.table, sizes.get(self.oid, 0)):
-                raise Passing(why)
+        if self.table is None:
+            return
+        self.estimated = estimated_rows(self.source.plain, [self.table])
+        size = sizes_of(self.source.plain, [self.table]).get(self.oid, 0)
+        if is_waited_for and (why := too_long(self.table, size)):
+            raise Passing(why)
+        # (nor do they wait for a sort)
+        self.size = 0 if is_waited_for else size
 
     def describe(self, relation: Relation | None) -> None:
         """Takes the definition that the table had, where it isn't published any more."""
@@ -111,9 +117,13 @@ class Turn:
         return Rows(self.table, self.point, clock())
 
     def blocks(self) -> Iterable[list[bytes]]:
-        """The rows themselves."""
+        """The rows themselves, in the order of the store's index where the server can sort them."""
         assert self.table and self.source
-        return () if self.is_gone else self.source.plain.copied_blocks(self.table.query(), BLOCK)
+        if self.is_gone:
+            return ()
+        plain = self.source.plain
+        runs = runs_of(plain, self.table, self.size)
+        return itertools.chain.from_iterable(it.blocks(plain, BLOCK) for it in runs)
 
     def close(self) -> None:
         if self.making:
