@@ -20,6 +20,7 @@ from ..errors import Failed
 from ..feeds import compare_tables, reading
 from ..follower import children_of, is_adding, kill_all, wait_until
 from ..place import PASSING, SERVER, Place
+from .adding import add
 from .basing import equal
 from .case import Case
 from .common import feed_of, now_in_tables, rows_file
@@ -434,8 +435,50 @@ def killed_often(place: Place) -> None:
     added(place, child)
 
 
+# How many rows a table has that is sorted, what is told where it isn't, and how many bytes of files
+# the server needs at least to sort it.
+UNORDERED, AS_THEY_LIE, SORTING = 300_000, "rows come as they lie", 10 << 20
+
+
+def sorted_rows(place: Place) -> None:
+    """Rows that don't lie by their key are sorted by the server, for the first copy and where they
+    are added; where it has no room for that, they come as they lie."""
+    place.run(
+        "CREATE TABLE random (id text PRIMARY KEY, note text)",
+        f"INSERT INTO random SELECT md5(it::text), 'note ' || it FROM generate_series(1, {UNORDERED}) it",
+        "ANALYZE random",
+    )
+
+    def written() -> int:
+        query = "SELECT temp_bytes FROM pg_stat_database WHERE datname = current_database()"
+        return int(place.value(query))
+
+    for limits in (("-1", "1MB"), ("1MB", "-1")):
+        child: Child | None = None
+        place.run("DROP PUBLICATION IF EXISTS pgsub", "CREATE PUBLICATION pgsub FOR TABLE random")
+        for limit in limits:
+            place.set(work_mem="1MB", temp_file_limit=limit)
+            before, told = written(), child.said().count(AS_THEY_LIE) if child else 0
+            if child is None:
+                child = place.start("--create")
+                place.catch_up(child)
+            else:
+                add(place, "random")
+            if limit == "-1":
+                wait_until(lambda before=before: written() - before > SORTING, "a sort", 30)  # type: ignore[misc]
+            if (found := child.said().count(AS_THEY_LIE) - told) != (limit != "-1"):
+                raise Failed(f"{limit}: {found} times {AS_THEY_LIE!r}: {child.said()}")
+        assert child
+        child.stop()
+        place.equal()
+        place.subcommand(
+            "drop", "--dsn", place.dsn(), "--store", str(place.store), "--yes", "--all"
+        )
+
+
 CASES = (
     Case("tables-with-the-copy", tables_with_the_copy),
+    Case("rows-sorted-by-their-key", sorted_rows),
     Case("store-that-is-not-complete", incomplete),
     Case("copy-on-a-full-disk", full_disk),
     Case("copy-killed-often", killed_often),
