@@ -11,7 +11,9 @@ import random
 import re
 import time
 from collections.abc import Callable, Iterable
-from concurrent.futures import Future, ThreadPoolExecutor
+from concurrent.futures import Future, ProcessPoolExecutor, ThreadPoolExecutor
+from multiprocessing import get_context
+from pathlib import Path
 
 from .cases import adding
 from .cases.common import rows_file, verify_words
@@ -102,14 +104,14 @@ class Form:
 TABLES = ("large", "nested", "beside", "wide", "mark")
 
 
-def digests_of_tables(place: Place) -> Digests:
-    """Those of the tables of SQLite."""
+def digests_of_tables(rows: Path, names: dict[str, list[str]]) -> Digests:
+    """Those of the tables of SQLite, of which these columns are read."""
     found = {}
-    with place.cluster.connect(place.database) as session, reading(rows_file(place)) as base:
-        for table in TABLES:
+    with reading(rows) as base:
+        for table, columns in names.items():
             found[table] = Digest()
-            names = ", ".join(quoted(name) for name, _ in columns_of(session, table))
-            for row in base.execute(f"SELECT {names} FROM {table}"):
+            cells = ", ".join(map(quoted, columns))
+            for row in base.execute(f"SELECT {cells} FROM {quoted(table)}"):
                 found[table].add(tuple(None if it is None else str(it) for it in row))
     return found
 
@@ -371,16 +373,26 @@ class Large(Tables):
         wait_until(is_compared, "comparing", self.seconds())
 
     def compare(self) -> str:
-        """Ends the connector, and compares the digests of all rows. Returns how many there are."""
+        """Ends the connector, and compares the digests of all rows, which are found side by side.
+        Returns how many there are."""
         self.supervisor.finish()
-        server = digests_of(self.place.cluster, TABLES)
-        copy = digests_of_store(self.place.options.program, self.place.store)
-        count = compare(server, copy, "the store")
-        if self.form.fed:
-            compare(server, digests_of_tables(self.place), "the tables")
+        place = self.place
+        with ProcessPoolExecutor(2, get_context("spawn")) as pool:
+            copy = pool.submit(digests_of_store, place.options.program, place.store)
+            if self.form.fed:
+                tables = pool.submit(digests_of_tables, rows_file(place), self.columns())
+            server = digests_of(place.cluster, TABLES)
+            count = compare(server, copy.result(), "the store")
+            if self.form.fed:
+                compare(server, tables.result(), "the tables")
         if (spool := self.place.beside(SPOOL).parent).exists():
             raise Failed(f"{spool} is left, with {sorted(spool.iterdir())}")
         return f"{count} rows are equal"
+
+    def columns(self) -> dict[str, list[str]]:
+        """The names of each table's columns."""
+        with self.place.cluster.connect(self.place.database) as session:
+            return {it: [name for name, _ in columns_of(session, it)] for it in TABLES}
 
 
 def rows_beside(at: int, first: int) -> str:
