@@ -253,9 +253,10 @@ def parts_killed(place: Place) -> None:
         for it in filters_of(child.process.pid):
             os.kill(it, signal.SIGKILL)
 
-    copying = "query LIKE 'COPY%'"
-    for call in (lose("backend_type = 'walsender'"), lose(copying), kill):
-        proxy.before("COPY ", call)
+    # (it has the snapshot by then)
+    reading = "state = 'idle in transaction'"
+    for call in (lose("backend_type = 'walsender'"), lose(reading), kill):
+        proxy.before('FROM ONLY "public"."more"', call)
         child = place.start(dsn=place.dsn(proxy.folder))
         child.wait_for("following slot")
         adding = place.started(words(place, "more"))
