@@ -26,6 +26,10 @@ from .case import Case
 from .common import feed_of, now_in_tables, rows_file
 
 
+# What reads a table's rows. (What a start reads of the catalogs comes by COPY, too.)
+READING = 'FROM ONLY "public"."'
+
+
 def is_followed(store: Path) -> bool:
     """Whether a connector or its filter has the store."""
     with contextlib.suppress(FileNotFoundError), open(f"{store}.connector", "rb") as file:
@@ -148,7 +152,7 @@ def cut(place: Place) -> None:
         if next(count) == 6:
             child.kill()
 
-    proxy.before("COPY (", hold, 10)
+    proxy.before(READING, hold, 10)
     words = "--create", "--all-tables", "--feed", str(feed_of(place))
     child = place.start(*words, dsn=place.dsn(proxy.folder))
     wait_until(lambda: not child.is_running(), "the kill", 60)
@@ -192,7 +196,7 @@ def slot_lost(place: Place) -> None:
         reads.set()
         goes_on.wait(60)
 
-    proxy.before("COPY ", hold)
+    proxy.before(READING, hold)
     child = place.start("--create", dsn=place.dsn(proxy.folder))
     wait_until(reads.is_set, "reading rows", 60, child.check)
     place.run(
@@ -279,7 +283,7 @@ def killed_with_tables(place: Place, moment: str) -> None:
             os.kill(makers[0], signal.SIGSTOP)
             child.signal(signal.SIGTERM)
 
-    proxy.before("COPY (", hold, len(PARTS))
+    proxy.before(READING, hold, len(PARTS))
     child = with_tables(place, dsn=place.dsn(proxy.folder))
     if moment == "copied":
         child.wait_for("info: copied ")
