@@ -20,11 +20,11 @@ items_order l lsn (i ∷ items) more h = (tt, items_order l lsn items more h)
 rows_order : (a : Addition) (rest : List Sent) → InOrder None (messages_in rest) → InOrder None (messages_in (rows_sent a ++ rest))
 rows_order a rest h =
     let last = sent_at (rows_lsn a) (message.Commit (rows_lsn a) (rows_end a) a.clock) in
-    let inside : InOrder (Some (rows_lsn a)) (messages_in (items_at (rows_lsn a) (rows_items a) ++ (last ∷ rest))) =
-    items_order (rows_lsn a) (rows_lsn a) (rows_items a) (last ∷ rest) (refl, h) in (
+    let inside : InOrder (Some (rows_lsn a)) (messages_in (items_at a.told (rows_items a) ++ (last ∷ rest))) =
+    items_order (rows_lsn a) a.told (rows_items a) (last ∷ rest) (refl, h) in (
       tt,
       subst (λ sent. InOrder (Some (rows_lsn a)) (messages_in sent))
-          (sym (append_assoc (items_at (rows_lsn a) (rows_items a)) (last ∷ []) rest)) inside,
+          (sym (append_assoc (items_at a.told (rows_items a)) (last ∷ []) rest)) inside,
     )
 
 -- items come where one came

@@ -5,12 +5,12 @@ use Rattle.std.specs.List.{AllByRecursion}
 use Rattle.std.specs.Prelude.{nat_lt}
 use Rattle.std.proofs.lemmas.List.Elements.{filter-append}
 use Rattle.std.proofs.lemmas.Bool.Decides.{nat_tests}
-use Rattle.pgtuple.specs.declared.cell.Cell.{Cell}
 use Rattle.pglogical.specs.declared.message.RelationDef.{RelationDef}
 use Rattle.pgsub_core.specs.Server.Work.{IsWork, xids_of, AllDiffer}
 use Rattle.pgsub_core.specs.Server.History.{Transaction, IsHistory, IsHistoryFrom, ended_after}
 use Rattle.pgadding.specs.LeftOut.{transaction_without}
-use Rattle.pgadding.specs.Addition.{Addition, inserted, rows_transaction, rows_xid}
+use Rattle.pgadding.specs.Addition.{OwnChange, Inserted, Updated, Deleted, Emptied, Addition, made_of, owned}
+use Rattle.pgadding.specs.Addition.{rows_transaction, rows_xid}
 use Rattle.pgadding.specs.Around.{IsAround, with_rows}
 use Rattle.pgadding.proofs.LeftWork.{is_work, xids-without}
 use Rattle.pgadding.proofs.Following.{IsSeen, AreSeen, AreUnseen, all_without}
@@ -20,13 +20,16 @@ EndBelow point ts = AllByRecursion (λ (t : Transaction). t.end < point) ts
 
 -- ---- it is a history
 
-inserted_work : (def : RelationDef) (rows : List (List Cell)) → IsWork (inserted def rows)
-inserted_work def [] = tt
-inserted_work def (row ∷ rows) = (tt, refl, inserted_work def rows)
+owned_work : (def : RelationDef) (owns : List OwnChange) → IsWork (owned def owns)
+owned_work def [] = tt
+owned_work def (Inserted row ∷ owns) = (tt, refl, owned_work def owns)
+owned_work def (Updated prior row ∷ owns) = (tt, refl, owned_work def owns)
+owned_work def (Deleted kind row ∷ owns) = (tt, refl, owned_work def owns)
+owned_work def (Emptied options ∷ owns) = (tt, refl, owned_work def owns)
 
-inserted_xids : (def : RelationDef) (rows : List (List Cell)) → xids_of (inserted def rows) ≡ []
-inserted_xids def [] = refl
-inserted_xids def (row ∷ rows) = inserted_xids def rows
+owned_xids : (def : RelationDef) (owns : List OwnChange) → xids_of (owned def owns) ≡ []
+owned_xids def [] = refl
+owned_xids def (own ∷ owns) = owned_xids def owns
 
 pub unseen_history : (point from : ℕ) (above : List Transaction) → AreUnseen point above → IsHistoryFrom from above
     → IsHistoryFrom point above
@@ -38,8 +41,8 @@ rows_history : (a : Addition) (from : ℕ) (above : List Transaction) → from <
 rows_history a from above lt unseen h = (
   omega arith,
   omega arith,
-  (tt, refl, inserted_work a.definition a.rows),
-  subst (λ xs. AllDiffer (rows_xid ∷ xs)) (sym (inserted_xids a.definition a.rows)) (refl, tt),
+  (tt, refl, owned_work a.definition (made_of a)),
+  subst (λ xs. AllDiffer (rows_xid ∷ xs)) (sym (owned_xids a.definition (made_of a))) (refl, tt),
   unseen_history a.point from above unseen h,
 )
 

@@ -7,7 +7,6 @@ use Rattle.std.specs.FinMap.{same_map, nat_cmp-IsAntisymmetric}
 use Rattle.std.specs.Cmp.{nat_cmp_total}
 use Rattle.std.specs.List.{AllByRecursion}
 use Rattle.std.proofs.lemmas.Bool.Decides.{nat_tests}
-use Rattle.pgtuple.specs.declared.cell.Cell.{Cell}
 use Rattle.pglogical.specs.declared.message.RelationDef.{RelationDef}
 use Rattle.pgrel.specs.Identity.{same_shape}
 use Rattle.pgapply.specs.declared.op.Op.TheVariants as op
@@ -18,7 +17,8 @@ use Rattle.pgsub_core.specs.Server.Work.{surviving_changes}
 use Rattle.pgsub_core.specs.Server.History.{Transaction, all_changes, ended_by, tables_as_of}
 use Rattle.pgsub_core.proofs.Changes.{fold-append, changes-append, ended-append, ended-none}
 use Rattle.pgadding.specs.LeftOut.{transaction_without}
-use Rattle.pgadding.specs.Addition.{Addition, inserted, rows_work, rows_transaction}
+use Rattle.pgadding.specs.Addition.{OwnChange, Inserted, Updated, Deleted, Emptied, Addition, made_of, owned}
+use Rattle.pgadding.specs.Addition.{rows_work, rows_transaction}
 use Rattle.pgadding.specs.Around.{IsAround, with_rows}
 use Rattle.pgadding.specs.Rows.{OtherRowsAreTheServers, AreRowsOf, RowsAreTheServers}
 use Rattle.pgadding.proofs.LeftItems.{other_changes}
@@ -88,12 +88,15 @@ copy-changes a p before below above seen =
 self : (x : ℕ) → eqb x x ≡ true
 self x = grind (arith, nat_tests)
 
-inserted_own : (def : RelationDef) (rows : List (List Cell)) → AllOwn def.oid (surviving_changes (inserted def rows))
-inserted_own def [] = tt
-inserted_own def (row ∷ rows) = (self def.oid, inserted_own def rows)
+owned_own : (def : RelationDef) (owns : List OwnChange) → AllOwn def.oid (surviving_changes (owned def owns))
+owned_own def [] = tt
+owned_own def (Inserted row ∷ owns) = (self def.oid, owned_own def owns)
+owned_own def (Updated prior row ∷ owns) = (self def.oid, owned_own def owns)
+owned_own def (Deleted kind row ∷ owns) = (self def.oid, owned_own def owns)
+owned_own def (Emptied options ∷ owns) = (self def.oid, owned_own def owns)
 
 rows_own : (a : Addition) → AllOwn a.definition.oid (surviving_changes (rows_work a))
-rows_own a = (self a.definition.oid, inserted_own a.definition a.rows)
+rows_own a = (self a.definition.oid, owned_own a.definition (made_of a))
 
 rows_changes_own : (a : Addition) (p : ℕ) → AllOwn a.definition.oid (rows_changes a p)
 rows_changes_own a p = elim (nat_le a.point p) as (λ b. AllOwn a.definition.oid (cond b (surviving_changes (rows_work a)) []))
@@ -102,11 +105,11 @@ rows_changes_own a p = elim (nat_le a.point p) as (λ b. AllOwn a.definition.oid
 -- ---- the other tables
 
 -- a list of changes and its second part
-in_two : (a b : List Change) (tables next : Tables) → fold_changes tables (a ++ b) ≡ Ok next
+pub in_two : (a b : List Change) (tables next : Tables) → fold_changes tables (a ++ b) ≡ Ok next
     → Bound (fold_changes tables a) (λ n. fold_changes n b) next
 in_two a b tables next e = bound (fold_changes tables a) (λ n. fold_changes n b) next (sym (fold-append a b tables) ∙ e)
 
-same_ok : (x y : Tables) (r : Result Tables StoreFault) → r ≡ Ok x → r ≡ Ok y → x ≡ y
+pub same_ok : (x y : Tables) (r : Result Tables StoreFault) → r ≡ Ok x → r ≡ Ok y → x ≡ y
 same_ok x y r e f = cc
 
 others_kept : (oid : ℕ) (first both own last : List Change) (tables copy : Tables) → AllOwn oid own
@@ -166,14 +169,14 @@ unfolding fold_changes
 rows_too a alone tables e =
     let def = a.definition in
     let oid = def.oid in
-    let more = surviving_changes (inserted def a.rows) in
+    let more = surviving_changes (owned def (made_of a)) in
     let first : fold_changes (map.insert no_tables oid (emptied_table def)) more ≡ Ok alone =
     ap (λ r. r >>= λ n. fold_changes n more) (sym (truncated def no_tables)) ∙ e in
     let here : map.get (map.insert no_tables oid (emptied_table def)) oid ≡ map.get (map.insert tables oid (emptied_table def)) oid =
     put no_tables oid (emptied_table def) oid ∙ ap (λ b. cond b (Some (emptied_table def)) (map.get no_tables oid)) (self oid)
     ∙ ap (λ b. cond b (Some (emptied_table def)) (map.get tables oid)) (sym (self oid)) ∙ sym (put tables oid (emptied_table def) oid) in
     let rest = own_too oid more (map.insert no_tables oid (emptied_table def)) alone (map.insert tables oid (emptied_table def))
-    (inserted_own def a.rows) here first in
+    (owned_own def (made_of a)) here first in
     record {
       next = rest.next;
       is = ap (λ r. r >>= λ n. fold_changes n more) (truncated def tables) ∙ rest.is;

@@ -13,6 +13,8 @@ mod Histories
 mod Whole
 mod Steps
 mod Kept
+mod Later
+mod KeptLater
 mod Fronts
 mod Bytes
 mod Copies

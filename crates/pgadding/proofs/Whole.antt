@@ -51,8 +51,8 @@ commit_of_rows a = sent_at (rows_lsn a) (message.Commit (rows_lsn a) (rows_end a
 
 rows_place : (a : Addition) (place : Option ℕ) (more : List Sent) → place_after place (rows_sent a ++ more) ≡ place_after None more
 rows_place a place more =
-    ap (place_after (Some (rows_lsn a))) (append_assoc (items_at (rows_lsn a) (rows_items a)) (commit_of_rows a ∷ []) more)
-    ∙ items_place (Some (rows_lsn a)) (rows_lsn a) (rows_items a) (commit_of_rows a ∷ more)
+    ap (place_after (Some (rows_lsn a))) (append_assoc (items_at a.told (rows_items a)) (commit_of_rows a ∷ []) more)
+    ∙ items_place (Some (rows_lsn a)) a.told (rows_items a) (commit_of_rows a ∷ more)
 
 passed_place : (point oid : ℕ) (place : Option ℕ) (m : Sent) (more : List Sent)
     → place_after place (passed point oid place m ++ more) ≡ place_after (place_of m place) more
@@ -122,8 +122,8 @@ rows_begin : (a : Addition) (from : ℕ) (more : List Sent) → from < a.point �
     → AllBeginFrom from (rows_sent a ++ more)
 rows_begin a from more lt h = (
   omega arith,
-  subst (AllBeginFrom from) (sym (append_assoc (items_at (rows_lsn a) (rows_items a)) (commit_of_rows a ∷ []) more))
-      (items_begin from (rows_lsn a) (rows_items a) (commit_of_rows a ∷ more) (tt, h)),
+  subst (AllBeginFrom from) (sym (append_assoc (items_at a.told (rows_items a)) (commit_of_rows a ∷ []) more))
+      (items_begin from a.told (rows_items a) (commit_of_rows a ∷ more) (tt, h)),
 )
 
 passed_begin : (from point oid : ℕ) (place : Option ℕ) (m : Sent) (sent more : List Sent) → AllBeginFrom from (m ∷ sent)
@@ -173,8 +173,8 @@ pushed_tell place start end clock xid (i ∷ items) more h = pushed_tell place s
 
 rows_tell : (a : Addition) (place : Option ℕ) (more : List Sent) → KeepalivesTell None more → KeepalivesTell place (rows_sent a ++ more)
 rows_tell a place more h =
-    subst (KeepalivesTell (Some (rows_lsn a))) (sym (append_assoc (items_at (rows_lsn a) (rows_items a)) (commit_of_rows a ∷ []) more))
-    (items_tell (Some (rows_lsn a)) (rows_lsn a) (rows_items a) (commit_of_rows a ∷ more) h)
+    subst (KeepalivesTell (Some (rows_lsn a))) (sym (append_assoc (items_at a.told (rows_items a)) (commit_of_rows a ∷ []) more))
+    (items_tell (Some (rows_lsn a)) a.told (rows_items a) (commit_of_rows a ∷ more) h)
 
 -- what is told of a message that is passed on, before the point
 passed_tell : (a : Addition) (place : Option ℕ) (m : Sent) (sent : List Sent) → is_behind a.point place m ≡ false

@@ -3,6 +3,7 @@ pub mod Addition
 pub mod Passing
 pub mod Around
 pub mod Rows
+pub mod Later
 pub mod Bytes
 pub mod Copies
 pub mod Worked

@@ -10,12 +10,13 @@ use Rattle.pglogical.specs.declared.message.Item.TheVariants.{Relation, Insert, 
 use Rattle.pglogical.specs.declared.message.Message.{Message}
 use Rattle.pglogical.specs.declared.message.Message.TheVariants as message
 use Rattle.pgorder.specs.declared.Version.TheVariants.{Two}
-use Rattle.pgsub_core.specs.Server.Work.{Work, Nothing, Changed}
-use Rattle.pgsub_core.specs.Server.History.{Transaction}
+use Rattle.pgsub_core.specs.Server.Work.{Work, Nothing, Changed, surviving_changes}
+use Rattle.pgsub_core.specs.Server.History.{Transaction, all_changes}
 use Rattle.pgsub_core.specs.Server.Stream.{Sent, Data, Keepalive}
-use Rattle.pgadding.specs.Addition.{Addition}
-use Rattle.pgadding.specs.Passing.{passed_on}
+use Rattle.pgadding.specs.Addition.{Inserted, Emptied, Addition, owned}
+use Rattle.pgadding.specs.Passing.{passed_on, before_rows}
 use Rattle.pgadding.specs.Around.{IsAround, IsWholeSession, KeepsDefinition}
+use Rattle.pgadding.specs.Later.{own_changes, kept_in}
 
 abbrev pub id : Column
 id = record { key = true; name = codes "id"; type_oid = 23; modifier = negsuc 0 }
@@ -36,7 +37,15 @@ row digit = Text (digit ∷ []) ∷ []
 
 -- t is added, with one row, by a slot whose point is 1000
 abbrev pub adding_t : Addition
-adding_t = record { point = 1000; definition = t; rows = row 49 ∷ []; clock = pos 7 }
+adding_t =
+    record {
+      point = 1000;
+      told = 999;
+      definition = t;
+      rows = row 49 ∷ [];
+      later = [];
+      clock = pos 7;
+    }
 
 abbrev pub plain : Message → Sent
 plain m = Data 0 0 (pos 0) m
@@ -101,6 +110,34 @@ NotYet = passed_on adding_t 900 (keepalive 904 ∷ seen) ≡ keepalive 904 ∷ s
 abbrev pub NoMore : Type 0
 NoMore = passed_on adding_t 1000 (seen ++ unseen) ≡ seen ++ unseen
 
+-- Where t is read at 904, the changes of the transaction that the snapshot doesn't see come behind
+-- its rows, of which there are none. They tell where the rows were read.
+abbrev pub later_t : Addition
+later_t =
+    record {
+      point = 1000;
+      told = 903;
+      definition = t;
+      rows = [];
+      later = Inserted (row 49) ∷ Emptied 0 ∷ Emptied 0 ∷ [];
+      clock = pos 7;
+    }
+
+abbrev pub rows_and_later : List Sent
+rows_and_later =
+    Data 999 999 (pos 0) (message.Begin 999 (pos 7) 2)
+    ∷ Data 903 903 (pos 0) (message.Item None (Relation t))
+    ∷ Data 903 903 (pos 0) (message.Item None (Truncate 0 (16384 ∷ [])))
+    ∷ Data 903 903 (pos 0) (message.Item None (Insert 16384 (row 49)))
+    ∷ Data 903 903 (pos 0) (message.Item None (Truncate 0 (16384 ∷ [])))
+    ∷ Data 903 903 (pos 0) (message.Item None (Truncate 0 (16384 ∷ [])))
+    ∷ Data 999 999 (pos 0) (message.Commit 999 1000 (pos 7)) ∷ []
+
+abbrev pub WithLater : Type 0
+WithLater =
+    passed_on later_t 900 (keepalive 904 ∷ (seen ++ unseen))
+    ≡ keepalive 904 ∷ (seen_without ++ (rows_and_later ++ unseen))
+
 -- ---- a history and a session of it, of which the laws speak
 
 abbrev pub work_seen : Work
@@ -117,6 +154,19 @@ below = record { xid = 700; work = work_seen; lsn = 912; end = 928; time = pos 0
 
 abbrev pub above : List Transaction
 above = record { xid = 701; work = work_unseen; lsn = 1000; end = 1040; time = pos 0 } ∷ []
+
+-- these are kept, and are the changes that the transaction makes to t
+abbrev pub LaterIsKept : Type 0
+LaterIsKept =
+    (kept_in 904 later_t.definition.oid None (before_rows later_t.point None (seen ++ unseen))
+    ≡ later_t.later)
+    × (surviving_changes (owned t later_t.later)
+    ≡ own_changes later_t.definition.oid (all_changes below))
+
+-- none of them is where the slot sees the transaction
+abbrev pub SeenIsNotKept : Type 0
+SeenIsNotKept =
+    kept_in 920 later_t.definition.oid None (before_rows later_t.point None (seen ++ unseen)) ≡ []
 
 abbrev pub session : List Sent
 session = keepalive 904 ∷ (seen_with [] ++ keepalive 999 ∷ keepalive 1000 ∷ unseen)

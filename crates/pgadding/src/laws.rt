@@ -4,13 +4,23 @@
 ghost use Rattle.pgadding.specs.Laws.{WithRowsIsHistory, PassedOnIsDelivered, PassedOnIsWhole};
 ghost use Rattle.pgadding.specs.Bytes.{PassedSessionsAreSessions};
 ghost use Rattle.pgadding.specs.Rows.{OtherRowsAreTheServers, RowsAreTheServers};
+ghost use Rattle.pgadding.specs.Later.{LaterRowsAreTheServers, KeptIsLater};
 ghost use Rattle.pgadding.specs.Copies.{
   StartsSafe,
   EndsSafe,
   CopyIsTheServers,
   NewTableIsTheServers,
 };
-ghost use Rattle.pgadding.specs.Worked.{BeforeAKeepalive, BeforeABegin, NotYet, NoMore, IsExample};
+ghost use Rattle.pgadding.specs.Worked.{
+  BeforeAKeepalive,
+  BeforeABegin,
+  NotYet,
+  NoMore,
+  WithLater,
+  LaterIsKept,
+  SeenIsNotKept,
+  IsExample,
+};
 ghost use Rattle.pgadding.specs.Repaired.{
   RepairMakesTheServers,
   WithRepairIsHistory,
@@ -59,12 +69,16 @@ pub fn passed_on_is_a_session()
 
 /// Each other table has the server's rows at every position (`others`). Where the rows that came
 /// are the server's at the point, under the definition that the server's history gives there, the
-/// copy has all of the server's rows at the point and at every position above it (`all`).
+/// copy has all of the server's rows at the point and at every position above it (`all`). They are
+/// so also where they were read at an earlier point, and what was done to the table from there on
+/// comes behind them (`later`): that is what is kept of a session (`kept`).
 ///
 /// PostgreSQL documentation, Logical Decoding Concepts, Exported Snapshots.
 pub fn rows_are_the_servers()
     ensures others { OtherRowsAreTheServers }
     ensures all { RowsAreTheServers }
+    ensures later { LaterRowsAreTheServers }
+    ensures kept { KeptIsLater }
 {}
 
 /// A copy of the server's history is one of the history with the rows (`start`), and from the point
@@ -81,8 +95,10 @@ pub fn copy_is_the_servers()
     ensures fresh { NewTableIsTheServers }
 {}
 
-/// What is passed on of a session with two transactions, one on each side of the point. Such a
-/// session of a history is as the laws ask (`example`).
+/// What is passed on of a session with two transactions, one on each side of the point; and where
+/// the rows were read before both (`later`), behind which come the first one's changes of the table
+/// (`meanwhile`): none where they were read behind it (`seen`). Such a session of a history is as
+/// the laws ask (`example`).
 ///
 /// PostgreSQL documentation, Logical Replication Message Formats.
 pub fn sessions_are_passed_on()
@@ -90,6 +106,9 @@ pub fn sessions_are_passed_on()
     ensures begin { BeforeABegin }
     ensures not_yet { NotYet }
     ensures no_more { NoMore }
+    ensures later { WithLater }
+    ensures meanwhile { LaterIsKept }
+    ensures seen { SeenIsNotKept }
     ensures example { IsExample }
 {}
 

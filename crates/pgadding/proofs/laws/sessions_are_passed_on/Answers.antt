@@ -8,5 +8,8 @@ returns c = record {
   begin = refl;
   not_yet = refl;
   no_more = refl;
+  later = refl;
+  meanwhile = (refl, refl);
+  seen = refl;
   example = worked.is_example;
 }
