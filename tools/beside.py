@@ -79,20 +79,28 @@ class Proofs:
 
 
 class Beside:
-    """Checks beside proofs: at most so many at once, and more when these have ended."""
+    """Checks beside proofs: at most so many at once, and more when these have ended. Of those that
+    wait the one of the greatest weight is next: what takes longest isn't to come last."""
 
     def __init__(self, proofs: Proofs, most: int, most_alone: int) -> None:
         self.proofs, self.most, self.most_alone, self.running = proofs, most, most_alone, 0
+        self.waiting: list[int] = []
+
+    def is_next(self, weight: int) -> bool:
+        places = self.most_alone if self.proofs.has_ended else self.most
+        return self.running < places and weight == max(self.waiting)
 
     @contextlib.contextmanager
-    def turn(self) -> Iterator[None]:
+    def turn(self, weight: int = 0) -> Iterator[None]:
         """Holds one of the places."""
         changed = self.proofs.changed
         with changed:
-            changed.wait_for(
-                lambda: self.running < (self.most_alone if self.proofs.has_ended else self.most)
-            )
+            self.waiting.append(weight)
+            changed.wait_for(lambda: self.is_next(weight))
+            self.waiting.remove(weight)
             self.running += 1
+            # (there may be another place)
+            changed.notify_all()
         try:
             yield
         finally:

@@ -5,6 +5,7 @@ import os
 import sys
 import tempfile
 import threading
+import time
 import types
 import unittest
 from pathlib import Path
@@ -90,6 +91,26 @@ class Turns(unittest.TestCase):
             self.assertTrue(second.wait(WAIT))
         waiting.join(WAIT)
         self.assertEqual(beside.running, 0)
+
+    def test_what_takes_longest_comes_first(self) -> None:
+        beside = Beside(Proofs(lambda line: None), most=1, most_alone=1)
+        taken = list[int]()
+
+        def take(weight: int) -> None:
+            with beside.turn(weight):
+                taken.append(weight)
+
+        threads = [threading.Thread(target=take, args=(it,)) for it in (2, 9, 5, 5)]
+        with beside.turn():
+            for it in threads:
+                it.start()
+            until = time.monotonic() + WAIT
+            while len(beside.waiting) < len(threads) and time.monotonic() < until:
+                time.sleep(0.001)
+        for it in threads:
+            it.join(WAIT)
+        self.assertEqual(taken, [9, 5, 5, 2])
+        self.assertEqual((beside.running, beside.waiting), (0, []))
 
 
 class Libraries(unittest.TestCase):
