@@ -75,6 +75,8 @@ class World:
         self.lock = threading.RLock()
         # what the first commits make, how many they are, and how tables were described then
         self.made, self.taken, self.as_known = Subscriber(Store(":memory:")), 0, self.known
+        # how long a record is that is written where nothing else is, and the server is asked
+        self.record = 0
         # (notified where sessions may have something to do)
         self.news = threading.Condition(self.lock)
 
@@ -167,7 +169,9 @@ class WorldServer(SmallServer):
                 while not is_over():
                     with world.news:
                         world.news.wait_for(has_news)
-                        commits, end = world.commits[at:], world.end
+                        commits = world.commits[at:]
+                        world.end += world.record if asked.is_set() and not commits else 0
+                        end = world.end
                     at += len(commits)
                     for payload in world.described(start, commits, sent):
                         peer.sendall(message(b"d", payload))

@@ -21,7 +21,7 @@ from pgsub_feed.relation import Shape
 
 from .adding_case import OTHER, THIRD, Case, Run, T
 from .row_filter import Store
-from .small_world import WorldSource, insert
+from .small_world import RUNNING, WorldSource, insert
 
 
 class Added(Case):
@@ -34,17 +34,19 @@ class Added(Case):
             run = self.goes_on()
         self.assertEqual(run.progress.findings.adding, {})
         self.assertIn("public.t: 27 rows as of", " ".join(self.said))
-        self.assertIn("adding public.t: 10 rows, 0 a second", self.said)
+        self.assertIn("reading public.t: 10 rows, 0 a second", self.said)
+        self.assertIn("adding public.t: 10 of 27 rows, 0 a second", self.said)
         self.assertIn("opening the store: 0 of 0 MB, 0 a second", self.said)
 
     def test_rows_in_the_order_of_the_key(self) -> None:
-        """Unless there are few, or commits wait for the follower."""
+        """Unless there are few. (Commits that wait for the follower don't wait for a sort.)"""
         self.patch(WorldSource, "copied", copied := list[str]())
         self.followed()
+        self.world.record = RUNNING
         for least, waited_for, is_sorted in (
             (1, "", True),
             (1 << 20, "", False),
-            (1, "*", False),
+            (1, "*", True),
         ):
             with self.subTest(least=least, waited_for=waited_for):
                 self.patch(row_order, "LEAST", least)

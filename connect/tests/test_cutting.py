@@ -60,9 +60,9 @@ class Cuts(Case):
         for where, name, after, times, noted in (
             (LeftOut, "fill", False, 0, {}),
             (LeftOut, "fill", True, 0, {T: 0}),
-            (Adder, "prepare", True, 0, {T: 0}),
-            (Adder, "meet", False, 0, {T: 0}),
-            (Adder, "meet", True, 0, {T: 1}),
+            (Adder, "begin_reading", True, 0, {T: 0}),
+            (Adder, "end_reading", False, 0, {T: 0}),
+            (Adder, "end_reading", True, 0, {T: 1}),
             (Adder, "send", False, 0, {T: 1}),
             (RowsSender, "push", True, 2, {T: 1}),
             (RowsSender, "push", True, 4, {T: 1}),

@@ -4,8 +4,6 @@ from __future__ import annotations
 
 import contextlib
 import os
-import threading
-import time
 import unittest
 from unittest import mock
 
@@ -16,7 +14,7 @@ from pgsub_connect.server import session
 from pgsub_connect.server.session import Subscription
 from pgsub_connect.status.progress import Progress
 from pgsub_connect.stream import gate
-from pgsub_connect.stream.gate import Gating, Making, is_shared, too_large_to_copy
+from pgsub_connect.stream.gate import Gating, is_shared, too_large_to_copy
 from pgsub_connect.stream.hold import Hold
 from pgsub_connect.stream.messages import flushed
 from pgsub_connect.verify import store as verify_store
@@ -29,7 +27,7 @@ from pgsub_feed.texts import lsn_text
 from .adding_case import OTHER, Case as AddingCase, Run, T
 from .asking import Asker, asking, snapshots_of
 from .fake_server import FakeServer, Quiet, Row
-from .small_world import WorldSource, insert, table, wait_for
+from .small_world import RUNNING, WorldSource, insert, table, wait_for
 from .stores import StoreCase
 from .test_repairing import Repairs as RepairsCase
 from .vectors import begin, commit, insert as change, keepalive, logged
@@ -157,32 +155,6 @@ class Looks(Quiet):
         self.assertEqual(self.gone, [])
 
 
-class Made(unittest.TestCase):
-    def test_a_slot(self) -> None:
-        making = Making(lambda _: (0x200, "snapshot"))
-        making.start()
-        making.join(10)
-        self.assertEqual(making.result(), (0x200, "snapshot"))
-
-    def test_an_error(self) -> None:
-        making = Making(mock.Mock(side_effect=ServerError("no", "53400")))
-        making.start()
-        making.join(10)
-        self.assertRaises(ServerError, making.result)
-
-    def test_it_is_given_up(self) -> None:
-        def make_slot(check: Check) -> tuple[int, str]:
-            while True:
-                check()
-                time.sleep(0.001)
-
-        making = Making(make_slot)
-        making.start()
-        making.give_up()
-        self.assertFalse(making.is_alive())
-        self.assertRaises(Stopped, making.result)
-
-
 class Requests(StoreCase):
     """What becomes of a request while commits wait."""
 
@@ -272,6 +244,7 @@ class Synchronous(AddingCase):
     def setUp(self) -> None:
         super().setUp()
         self.waits = True
+        self.world.record = RUNNING
         self.brain.answer("synchronous_standby_names", [["*"]])
         self.brain.answer("pg_locks", lambda _: [[lsn_text(self.world.end), self.waiting()]])
         self.followed()
@@ -303,53 +276,19 @@ class Synchronous(AddingCase):
         self.goes_on()
         self.assertEqual(confirmed, [True] * 5)
 
-    def test_what_is_committed_behind_the_look_is_kept(self) -> None:
-        """Where the slot doesn't wait any more nothing passes: it may be behind the point."""
+    def test_commits_are_confirmed_while_rows_are_read(self) -> None:
         confirmed: list[bool] = []
 
         def hook(name: str) -> None:
-            if name == "make_slot":
+            if name in ("see", "COPY", "block"):
                 confirmed.append(self.commits())
-                self.waits = False
-                time.sleep(0.1)
-                self.world.commit(insert(OTHER, (7777, "late")))
-                time.sleep(0.1)
-                confirmed.append(self.is_confirmed(self.world.commits[-1][0]))
 
         WorldSource.hook = staticmethod(hook)
         self.spoil()
         self.want(T)
         self.goes_on()
-        self.assertEqual(confirmed, [True, False])
-
-    def test_commits_wait_for_too_long(self) -> None:
-        """As where the slot waits for no transaction and isn't made: it is tried again later."""
-        self.patch(gate, "MOST", 0.2)
-        tries, given_up, give_up = list[int](), threading.Event(), Making.give_up
-
-        def gives_up(making: Making) -> None:
-            # (on a busy machine the second one may take as long)
-            self.patch(gate, "MOST", 600.0)
-            given_up.set()
-            give_up(making)
-
-        self.patch(Making, "give_up", gives_up)
-
-        def hook(name: str) -> None:
-            if name == "make_slot":
-                tries.append(1)
-                self.waits = False
-                if len(tries) == 1:
-                    self.change()
-                    given_up.wait(60)
-
-        WorldSource.hook = staticmethod(hook)
-        self.spoil()
-        self.want(T)
-        self.goes_on()
-        self.assertEqual(len(tries), 2)
-        told = [it for it in self.said if "commits at the server have waited" in it]
-        self.assertTrue(any("it is added later" in it for it in told), self.said)
+        self.assertEqual(confirmed, [True] * len(confirmed))
+        self.assertGreater(len(confirmed), 2)
 
     def test_rows_that_take_too_long(self) -> None:
         """The table is refused, and another session begins at once."""

@@ -16,6 +16,7 @@ from pgsub_connect.store.checkpoint import read_known
 from pgsub_connect.stream import filter as stream_filter
 from pgsub_connect.stream.filter_end import FilterEnded
 from pgsub_feed.errors import Passing, Unfit
+from pgsub_feed.interruption import Check
 
 from .adding_case import OTHER, THIRD, Case, Run, T
 from .small_world import WorldSource, insert
@@ -93,8 +94,8 @@ class InTheWay(Case):
         points = [0x10, self.world.end]
         real = WorldSource.make_slot
 
-        def make_slot(source: WorldSource, seconds: float) -> tuple[int, str]:
-            found = real(source, seconds)
+        def make_slot(source: WorldSource, seconds: float, check: Check) -> tuple[int, str]:
+            found = real(source, seconds, check)
             return (points.pop(0), found[1]) if points else found
 
         self.patch(WorldSource, "make_slot", make_slot)

@@ -3,28 +3,31 @@ follower does between its payloads.
 
 | Phase | What holds | Goes on |
 |---|---|---|
-| IDLE | the table's changes are left out | once it is time: the table is read from the catalog, and the stream is held |
-| HELD | nothing is passed on | once all that was passed on is stored, and so confirmed: the slot is made and the table locked |
-| MAKING | what is below P for certain is passed on, where commits wait for the follower | once the slot is made: the table is locked |
-| GOING | commits below P are passed on | once the first payload behind P has come: the rows are passed on |
+| IDLE | the table's changes are left out | once it is time: they are kept, and the table is read |
+| READING | its slot is made, it is locked, and its rows are read into a file. The stream is held for a second, and goes on then | once all are read |
+| SEEKING | the stream goes on to the next place where their transaction may stand | once that has come: the rows are passed on, and the kept changes |
 | SENT | all is passed on, or nothing where the session is to end | once the store is at P: the table is there |
 
 The session is to end where it has described the table otherwise than its rows: then another one
 begins at P.
 
-Where the server makes no slot in time, or the table is altered or locked, the stream is let go, and
-later it is tried again; so it is where the rows don't fit on the disk of open transactions, once. Where rows can't be read to their end the session ends, since a transaction
-is open in it. A table that can't be added is refused: it stays as it was, its changes stay left
-out, and that is a finding. One that isn't published any more is no longer added; where its rows are
-to go, the transaction has none.
+Where the server makes no slot in time, or the table is altered or locked, later it is tried again;
+so it is where the rows don't fit on the disk of open transactions, once. Where one of its changes
+came under another definition meanwhile, that is in another session, and so it is where what was read
+can't be passed on to its end, since a transaction is open then. A table that can't be added is
+refused: it stays as it was, its changes stay left out, and that is a finding. One that isn't
+published any more is no longer added; where its rows are to go, the transaction has none.
 """
 
 import collections
+import errno
+import os
 import time
+from collections.abc import Callable
 from typing import Any
 
 from pgsub_feed import log
-from pgsub_feed.errors import Passing, Unfit
+from pgsub_feed.errors import Passing, Stopped, Unfit
 from pgsub_feed.texts import counted, lsn_text
 
 from ..copy.table_reader import GONE
@@ -35,15 +38,19 @@ from ..stream.common import Common
 from ..stream.filter_end import NO_ROOM, FilterEnded
 from ..stream.hold import Hold
 from ..stream.memory_limit import BufferLimits
+from ..stream.place import Place
 from ..stream.statuses import Confirming
+from .kept_changes import KeptChanges
 from .replacement import LeftOut, Rows
 from .requests import Publications, Requests, Stream, TooLarge, too_roomy
 from .turn import SLOT, RowsSender, Turn
 
-IDLE, HELD, MAKING, GOING, SENT = "idle", "held", "making", "going", "sent"
+IDLE, READING, SEEKING, SENT = "idle", "reading", "seeking", "sent"
 # After how many seconds a table is tried again, first and at most, and refused after how often; and
 # after how often where the disk had no room for its rows.
 FIRST_DELAY, LONGEST_DELAY, ATTEMPTS, ROOMLESS = 1.0, 60.0, 5, 2
+# For how many seconds the stream is held while rows are read: those of a small table are there then.
+HELD = 1.0
 
 
 class Retries:
@@ -103,15 +110,24 @@ class Adder:
         watch: Publications,
         confirming: Confirming,
         hold: Hold,
+        place: Place,
         stream: Stream,
+        wake: Callable[[], None],
     ) -> None:
-        subscription, _, self.checkpoint, self.progress, self.remembered = common
-        self.watch, self.confirming, self.hold, self.stream = watch, confirming, hold, stream
+        _, _, self.checkpoint, self.progress, self.remembered = common
+        self.store, self.limits, self.watch = store, limits, watch
+        self.confirming, self.hold, self.place = confirming, hold, place
+        self.stream, self.wake = stream, wake
         self.left_out = LeftOut(self.checkpoint, self.remembered)
         self.leaving = self.left_out.leaving
         self.requests = Requests(common, store, limits, stream)
-        self.sender = RowsSender(limits, self.progress, confirming.noting, stream, self.show)
-        self.phase, self.turn, self.retries = IDLE, Turn(), Retries()
+        self.sender = RowsSender(self.progress, confirming.noting, stream)
+        self.phase, self.retries = IDLE, Retries()
+        # what was told of how far it is, and until when the stream is held for it
+        self.text, self.until = "", 0.0
+        # the table whose turn it is, and its changes since; None where there is none
+        self.turn: Turn | None = None
+        self.kept: KeptChanges | None = None
         # whether the session ends once the rows of a table are stored
         self.ends_session = False
         # the rows that were passed on and aren't stored yet
@@ -157,150 +173,187 @@ class Adder:
 
     def end_session(self) -> None:
         """A session has ended, and with it what was under way."""
-        if self.phase in (HELD, MAKING, GOING) or self.ends_session:
-            self.hold.end()
-        self.turn.close()
+        self.close()
+        self.place.end()
         self.phase, self.ends_session, self.sent = IDLE, False, None
 
     def note_end(self, ended: FilterEnded) -> bool:
         """Notes a filter's end. Returns whether a table is given up by that, whose rows didn't fit on
         the disk of open transactions twice."""
-        rows, spool, oid = self.sent, self.confirming.filter.spool, self.turn.oid
+        rows, spool = self.sent, self.confirming.filter.spool
         if ended.said != NO_ROOM or rows is None or spool is None:
             return False
-        if not self.retries.are_too_many(oid, NO_ROOM, ROOMLESS):
+        return self.has_no_room(rows, spool.path, spool.had)
+
+    def has_no_room(self, rows: Rows, path: str, had: int) -> bool:
+        """Rows didn't fit on a disk that has had so many bytes for them. Returns whether their table
+        is given up."""
+        if not self.retries.are_too_many(rows.table.oid, NO_ROOM, ROOMLESS):
             return False
-        part = rows.count / max(self.turn.estimated or 0, rows.count, 1)
-        size = max(int(rows.cost / part) if part else 0, spool.had)
-        self.refuse(oid, too_roomy(rows.table, size, spool.path, spool.had))
+        estimated = self.turn.estimated if self.turn else None
+        part = rows.count / max(estimated or 0, rows.count, 1)
+        size = max(int(rows.cost / part) if part else 0, had)
+        self.refuse(rows.table.oid, too_roomy(rows.table, size, path, had))
         return True
 
     # one table
 
     def step(self) -> None:
         """Goes on with a table, where that is possible now. Called between payloads."""
-        if self.phase == SENT and self.confirming.position >= self.turn.point:
-            self.finish(self.turn.oid, self.turn.point)
+        turn = self.turn
+        if self.phase == SENT and turn and self.confirming.position >= turn.point():
+            self.finish(turn.oid, turn.point())
+            self.close()
             self.phase = IDLE
             self.retries.succeed()
         elif self.phase == IDLE and self.leaving.points and not self.hold.is_held:
             if self.retries.is_time():
-                self.prepare()
-        elif self.phase == HELD and self.confirming.is_stored():
-            self.meet()
-        elif self.phase == MAKING and self.turn.is_made():
-            self.meet()
-        elif self.phase == GOING and self.hold.is_there:
-            self.send()
+                self.begin_reading()
+        elif self.phase == READING and turn:
+            if turn.has_read():
+                self.end_reading(turn)
+                return
+            if time.monotonic() > self.until or self.progress.server.is_waited_for:
+                self.place.go_on()
+            if turn.text != self.text:
+                self.show(turn.text)
+        elif self.phase == SEEKING and turn and self.place.is_found():
+            self.send(turn)
 
-    def prepare(self) -> None:
-        """Reads the table's definition, and holds the stream."""
+    def is_adding(self) -> bool:
+        """Whether a table is under way."""
+        return self.phase != IDLE
+
+    def begin_reading(self) -> None:
+        """Reads a table beside the stream, and keeps its changes from now on."""
         oid = self.left_out.next_oid()
         if not oid:
             self.retries.rest()
             return
-        self.turn = turn = Turn(oid)
+        unwanted = oid in self.remembered.unwanted
+        described = self.remembered.described(oid) if unwanted else None
+        server, folder = self.progress.server, self.folder()
         try:
-            standbys = turn.open(self.requests.open(self.stream.attend))
-            turn.read(self.progress.server.note_standbys(standbys))
-        except (ServerError, Passing, Unfit) as error:
-            self.fail(error)
-            return
-        if oid in self.remembered.unwanted:
-            turn.describe(self.remembered.described(oid))
-        if turn.table is None:
-            turn.close()
-            log.warning(
-                f"{self.remembered.text_of(oid)} isn't published any more: it isn't added, and the rows that it had stay"
-            )
-            self.forget(oid)
-            return
-        self.hold_stream()
-        self.progress.enter("adding a table")
-        self.show("waits for a slot")
-
-    def hold_stream(self) -> None:
-        """Holds the stream; where commits wait, up to a gate while the slot is made."""
-        if self.progress.server.is_waited_for:
-            self.hold.begin(None, 0.0, maker=self.turn.maker())
-            self.turn.begin_making()
-            self.phase = MAKING
+            asked = oid, self.requests.open, described
+            self.turn = turn = Turn(*asked, self.limits, server, folder, self.wake)
+            self.kept = kept = KeptChanges(oid, folder, self.confirming.reached())
+            self.leaving.kept = kept
+            # (commits that wait for the follower aren't held)
+            self.place.begin(kept.reached, holds=not server.is_waited_for)
+            self.until = time.monotonic() + HELD
+            turn.start()
+        except OSError as error:
+            self.fail(oid, Passing(f"{folder}: {error.strerror}"))
+        except RuntimeError as error:
+            # (threads or memory may be too few)
+            self.fail(oid, Passing(str(error)))
         else:
-            self.hold.begin(None, 0.0)
-            self.phase = HELD
+            self.phase = READING
+            self.show(turn.text)
 
-    def let_go(self, why: str) -> None:
-        """Lets the stream go, since commits have waited for too long."""
-        if self.phase in (HELD, MAKING, GOING):
-            self.stop_holding(Passing(why))
+    def folder(self) -> str:
+        """Where rows wait to be passed on."""
+        spool = self.confirming.filter.spool
+        return spool.folder if spool else os.path.dirname(os.path.abspath(self.store))
 
-    def stop_holding(self, error: Exception) -> None:
-        """Lets the stream go because of what was in the way."""
-        self.hold.end()
-        self.phase = IDLE
-        self.fail(error)
-
-    def meet(self) -> None:
-        """Makes the slot, and locks the table as it is at its LSN."""
-        turn = self.turn
+    def end_reading(self, turn: Turn) -> None:
+        """Looks for the place of the rows, where they were read."""
+        assert self.kept
         try:
-            point, snapshot = turn.slot()
-            if point <= (reached := max(self.confirming.reached(), self.hold.gate or 0)):
-                text = f"its slot is at {lsn_text(point)}, and the stream at {lsn_text(reached)}: is it of a standby behind?"
+            if turn.error:
+                raise turn.error
+            if turn.rows and turn.rows.read <= self.kept.reached:
+                at, reached = lsn_text(turn.rows.read), lsn_text(self.kept.reached)
+                text = (
+                    f"its slot is at {at}, and the stream at {reached}: is it of a standby behind?"
+                )
                 raise Passing(text)
-            turn.see(point, snapshot)
-        except (ServerError, Passing, Unfit, NoSlot) as error:
-            self.stop_holding(error)
+        except OSError as error:
+            self.fail_on_disk(turn, error)
             return
-        turn.note_found(self.found())
-        self.left_out.note_point(turn.oid, point)
-        self.hold.go(point)
-        self.phase = GOING
-        self.show(f"the stream goes on to {lsn_text(point)}")
+        except TooLarge as error:
+            self.refuse(turn.oid, str(error))
+            return
+        except (ServerError, NoSlot, Passing, Stopped, Unfit) as error:
+            self.fail(turn.oid, error)
+            return
+        if turn.rows is None:
+            self.give_up()
+            log.warning(
+                f"{self.remembered.text_of(turn.oid)} isn't published any more: it isn't added, and the rows that it had stay"
+            )
+            self.forget(turn.oid)
+            return
+        turn.note_found(self.found(turn))
+        turn.unlock()
+        self.kept.begin_at(turn.rows.read)
+        if self.place.holds:
+            # (no change behind the slot's point was passed on or kept)
+            self.left_out.note_point(turn.oid, turn.rows.read)
+        self.place.seek(turn.rows.read)
+        self.phase = SEEKING
+        self.show("waits for its place in the stream")
 
-    def found(self) -> list[str]:
+    def found(self, turn: Turn) -> list[str]:
         """Looks at the publications while the table is locked: what is found of it up to here is of
         rows that go.
 
-        Unless it was altered behind P, which makes nothing wrong of the rows at P, but of their
-        values then.
+        Unless it was altered behind its slot, which makes nothing wrong of the rows then, but of
+        their values.
         """
-        oid = self.turn.oid
-        if self.turn.is_gone:
-            return self.remembered.found_of(oid)
+        if turn.is_gone():
+            return self.remembered.found_of(turn.oid)
         if self.watch.look_again(self.stream.attend, self.confirming.position):
-            now = self.remembered.catalog.tables.get(oid) if self.remembered.catalog else None
-            if now and now.shape == self.turn.relation().shape:
-                return self.remembered.found_of(oid)
+            now = self.remembered.catalog.tables.get(turn.oid) if self.remembered.catalog else None
+            if now and now.shape == turn.relation().shape:
+                return self.remembered.found_of(turn.oid)
         return []
 
-    def send(self) -> None:
-        """Passes on the rows. Where that fails in part, the session ends."""
-        turn, rows = self.turn, self.turn.rows()
-        self.sent = rows
+    def send(self, turn: Turn) -> None:
+        """Passes on the rows, and what was kept. Where that fails, the session ends."""
+        rows, kept = turn.rows, self.kept
+        assert rows and kept
+        if kept.has_others(rows.relation):
+            self.fail(turn.oid, Passing("it was altered while its rows were read"))
+            raise Renewed("the session ends, since a table was described otherwise than its rows")
+        rows.stand_at(self.place.point)
+        self.progress.enter("adding a table")
+        self.show("its rows are passed on")
+        self.left_out.note_point(turn.oid, rows.point)
         self.remembered.replaced(turn.relation(), rows.lsn)
+        self.sent = rows
         try:
-            self.sender.send(rows, turn.blocks(), turn.estimated)
+            turn.check_size(rows, kept.size())
+            self.sender.send(turn, rows, kept)
         except TooLarge as error:
             self.refuse(turn.oid, str(error))
             raise Renewed("the session ends, since a table can't be added") from None
-        except (ServerError, Passing) as error:
-            self.fail(error)
-            raise ServerError("the session ends, since a table's rows can't be read") from None
-        turn.close()
+        except OSError as error:
+            self.fail(turn.oid, Passing(f"{self.folder()}: {error.strerror}"))
+            raise Renewed("the session ends, since a table's rows can't be read") from None
         self.ends_session = self.leaving.has_described_otherwise(rows.relation)
+        self.leaving.kept = None
         if not self.ends_session:
-            self.hold.end()
+            self.leave_place()
         self.phase = SENT
         self.progress.enter("following")
-        log.info(f"{rows.table.text()}: {counted(rows.count, 'row')} as of {lsn_text(turn.point)}")
+        log.info(f"{rows.table.text()}: {counted(rows.count, 'row')} as of {lsn_text(rows.read)}")
+
+    def close(self) -> None:
+        """What was read and kept goes."""
+        self.leaving.kept = None
+        if self.turn:
+            self.turn.close()
+        if self.kept:
+            self.kept.close()
+        self.turn = self.kept = None
 
     def finish(self, oid: int, point: int) -> None:
         """The store has a table's rows."""
         self.sent = None
         log.info(f"{self.remembered.text_of(oid)} is there, complete as of {lsn_text(point)}")
-        texts = self.turn.take_found()
-        self.forget(oid, texts if oid == self.turn.oid else [])
+        is_its_turn = self.turn is not None and self.turn.oid == oid
+        self.forget(oid, self.turn.take_found() if self.turn and is_its_turn else [])
 
     def forget(self, oid: int, texts: list[str] | None = None) -> None:
         """A table is no longer among those that are added; what was found of its rows goes."""
@@ -309,36 +362,56 @@ class Adder:
         self.watch.show()
         self.show()
 
-    def fail(self, error: Exception) -> None:
+    def fail_on_disk(self, turn: Turn, error: OSError) -> None:
+        """Notes that the disk failed on which rows wait."""
+        spool = self.confirming.filter.spool
+        if turn.rows and spool and error.errno == errno.ENOSPC:
+            if self.has_no_room(turn.rows, spool.path, spool.room()):
+                return
+        self.fail(turn.oid, Passing(f"{self.folder()}: {error.strerror}"))
+
+    def fail(self, oid: int, error: Exception) -> None:
         """Notes what was in the way, for this time or for good."""
-        self.turn.close()
-        text = f"{self.remembered.text_of(self.turn.oid)}: {reason(error)}"
-        if self.retries.is_over(self.turn.oid, error):
-            self.refuse(self.turn.oid, text)
+        self.give_up()
+        text = f"{self.remembered.text_of(oid)}: {reason(error)}"
+        if self.retries.is_over(oid, error):
+            self.refuse(oid, text)
             return
         self.retries.wait()
-        self.progress.enter("following")
         log.warning(f"{text}: it is added later")
         self.show(reason(error))
 
+    def give_up(self) -> None:
+        """The stream goes on without the rows."""
+        self.close()
+        self.leave_place()
+        self.phase = IDLE
+        self.progress.enter("following")
+
+    def leave_place(self) -> None:
+        """The stream goes on, with what was kept back."""
+        self.hold.kept = [*self.place.end(), *self.hold.kept]
+
     def refuse(self, oid: int, why: str) -> None:
         """Notes why a table can't be added. What is there of it isn't right, so that is found."""
-        self.turn.close()
+        self.give_up()
         if oid in self.remembered.partial:
             # (its changes are left out without that, and others need the room)
             self.left_out.forget(oid)
         self.remembered.refuse(oid, why)
         text = f"table {self.remembered.text_of(oid)} can't be added: {why}"
         self.remembered.found.find(PUBLICATION, self.confirming.position, text, About((oid,)))
-        self.progress.enter("following")
         self.show()
         self.watch.keep()
 
     def show(self, how: str = "") -> None:
-        """Tells the progress which tables are being added."""
+        """Tells the progress which tables are being added. `how`: how far the one is whose turn it
+        is."""
+        self.text = how
         texts, text_of = dict[str, str](), self.remembered.text_of
+        turn = self.turn.oid if self.turn else self.left_out.next_oid()
         for oid in dict.fromkeys((*self.checkpoint.adding(), *self.remembered.wanted)):
-            waits = how if how and oid == self.turn.oid else "waits"
+            waits = how if how and oid == turn else "waits"
             texts[text_of(oid)] = self.remembered.wanted.get(oid) or waits
         self.progress.findings.note_adding(texts)
 

@@ -1,49 +1,46 @@
 """Replaces the rows of one table within a stream that goes on: which changes are left out, up to
 which LSN the checkpoint has it, and the transaction that has the rows.
 
-Let P be the consistent point of a temporary slot that is made while nothing is passed on, and above
-all that was. As the module `stream.hold` says, a commit whose final LSN is below P is seen by the
-slot's snapshot, and any other isn't; P is the end of a record that is no commit (of running
-transactions), and above the final LSN of each commit that was passed on before. So the stream to
-the filter becomes this:
+The rows are read as of the consistent point R of a temporary slot, while the stream goes on. As the
+module `stream.hold` says, a commit whose final LSN is below R is seen by the slot's snapshot, and any
+other isn't. The table's changes don't pass on from before the slot is asked for: those that the
+snapshot doesn't see are kept aside. Once the rows are read, they stand at the next place P that the
+module `stream.place` finds, with the kept changes behind them. So the stream to the filter becomes
+this:
 
 | What comes | Final LSN below P | P or above |
 |---|---|---|
 | Begin, Commit, Relation, Type, Origin, Message | passed on | passed on |
-| Insert, Update, Delete of the table | left out | passed on |
-| Truncate of the table alone | left out | passed on |
-| Truncate of several tables | passed on without its OID | passed on |
+| Insert, Update, Delete of the table | left out, and kept from R on | passed on |
+| Truncate of the table alone | left out, and kept from R on | passed on |
+| Truncate of several tables | passed on without its OID, and kept from R on | passed on |
 | a change of another table | passed on | passed on |
 | a commit with nothing left | passed on, as one without changes | |
-
-| A keepalive | End below P | P or above |
-|---|---|---|
-| between transactions | passed on | kept until the rows' transaction was passed on |
-| between Begin and Commit | passed on | left out; no server sends one |
+| a keepalive | passed on, the last one between transactions not before what comes behind it | passed on |
 
 As long as P isn't known, all changes of the table are left out, as below any P. The rows'
-transaction stands where the first Begin with a final LSN of P or above, or the first keepalive with
-such an end, would have come. It is Begin, Relation, Truncate, an Insert for each row that the
-snapshot has, Commit:
+transaction is Begin, Relation, Truncate, an Insert for each row that the snapshot has, the kept
+changes in their order, Commit:
 
 - Its final LSN is P - 1 and its end is P. A server's commit has neither: records begin and end at
-  multiples of eight, and the one that ends at P is no commit. Commits before it end where that
-  record begins or before, which is below P
-  - 1; those behind it begin at P.
+  multiples of eight, and P is above the end of each commit before. What else it has tells R - 1.
 - Its xid is 2, which no transaction of a server has (FrozenTransactionId); no other transaction is
   open where it begins, nor is any streamed: sessions ask for whole transactions from before the
-  slot is made until the rows are stored. Thus each Begin tells the final LSN before the changes
+  slot is asked for until the rows are stored. Thus each Begin tells the final LSN before the changes
   that it decides on.
 - The Truncate drops what the copy has of the table, whatever that is, so that an Insert can't clash
   with it.
+- The kept changes have the definition of the rows. Where one came under another Relation message, as
+  of a table that was altered meanwhile, the rows are read again, in another session.
 
 So what the filter gets is a session of a history: the server's, without the changes of the table in
 commits below P that were not stored before, and with one more commit. Its LSNs rise, each change
 has its Relation before it in the session (those of the table come with its own transaction, and the
 server's are passed on), and each keepalive's end is below the end of every later commit with
 changes. That is proved, wherever a session is cut off: by the laws of `crates/pgadding`
-(specs/Laws.antt). Beyond what they take from the paragraphs above, and what holds of any server,
-they ask two things of it (specs/Around.antt):
+(specs/Laws.antt), as is that the rows with the kept changes are the server's at P (specs/Later.antt).
+Beyond what they take from the paragraphs above, and what holds of any server, they ask two things of
+it (specs/Around.antt):
 
 - `KeepalivesTell`: what begins behind a keepalive between transactions has a final LSN of its end
   or above, also where it changes nothing.
@@ -61,8 +58,8 @@ passed on in it. Once the rows are stored it ends, and the next one begins at P 
 table anew. That is all that it mends: where partitions log no old rows that fit the replica
 identity of their root, any new session has changes that can't be applied.
 
-PostgreSQL's own table synchronisation differs in that it reads the rest, from its snapshot to where
-the others are, from a second slot.
+PostgreSQL's own table synchronisation differs in that it stores the rows before those changes, and
+reads these from a second slot.
 
 What a fault leaves at each step. The checkpoint has `adding`: for each table the P at which its
 rows are stored, 0 as long as that isn't known. It is written durably before what it says is done:
@@ -70,8 +67,8 @@ rows are stored, 0 as long as that isn't known. It is written durably before wha
 | Cut | `adding` | The store | How it goes on |
 |---|---|---|---|
 | before it is noted | nothing | all changes of the table | the request is there still, or was never made |
-| before the slot is made | 0 | without the table's changes since | the slot is made |
-| after P is noted, before the rows are stored | P | at a position below P | P becomes 0, as the snapshot is gone, and a slot is made anew |
+| before P is known | 0 | without the table's changes since | a slot is made, and the rows are read again |
+| after P is noted, before the rows are stored | P | at a position below P | P becomes 0, as the kept changes are gone, and the rows are read again |
 | after the rows are stored | P | at P or above | the table leaves `adding` |
 
 A position of P or above tells that the rows are stored, since no commit that ends there is passed
@@ -93,6 +90,7 @@ from ..errors import ServerError
 from ..server.catalog import Table
 from ..store.checkpoint import Checkpoint
 from ..stream.messages import BEGIN, CHANGES, COMMIT, RELATION, START, TRUNCATE, final_lsn
+from .kept_changes import KeptChanges
 
 # What CopyData and XLogData, and the filter that buffers it, add to a message, in bytes.
 AROUND, BUFFERED = 30, 8
@@ -106,6 +104,8 @@ class Leaving:
 
     def __init__(self) -> None:
         self.points: dict[int, int] = {}
+        # what is kept of one of the tables, while its rows are read
+        self.kept: KeptChanges | None = None
         self.begin_session()
 
     def begin_session(self) -> None:
@@ -135,7 +135,9 @@ class Leaving:
                 self.is_inside = False
             elif not self.points:
                 pass
-            elif letter in CHANGES and self.leaves_out(payload[26:30]):
+            elif letter in CHANGES and self.leaves_out(oid := payload[26:30]):
+                if self.kept and self.kept.oid == oid:
+                    self.kept.add(self.lsn, payload, self.described.get(oid, b""))
                 continue
             elif letter == TRUNCATE:
                 payload = self.truncation(payload)
@@ -164,27 +166,34 @@ class Leaving:
         left = [it for it in oids if not self.leaves_out(it)]
         if len(left) == len(oids):
             return payload
+        if self.kept and self.leaves_out(self.kept.oid):
+            self.kept.add_truncate(self.lsn, payload, self.described.get(self.kept.oid, b""))
         head = payload[:26] + struct.pack(">I", len(left)) + payload[30:31]
         return head + b"".join(left) if left else b""
 
 
 class Rows:
-    """The transaction of a table's rows at P, as frames: what opens it, some rows after the other,
-    and what closes it.
+    """The transaction of a table's rows, as frames: what opens it, some rows after the other, and
+    what closes it. `read`: the LSN as of which they are; `point`: that of its end.
 
     `cost`: how much the filter buffers of it, in bytes; `longest`: the length of the longest
     payload so far. `clock`: when it is made, in microseconds since 2000.
     """
 
-    def __init__(self, table: Table, point: int, clock: int) -> None:
-        self.table, self.point, self.lsn, self.clock = table, point, point - 1, clock
-        self.heads, self.relation = InsertHeads(table, self.lsn), relation(table)
+    def __init__(self, table: Table, read: int, clock: int) -> None:
+        self.table, self.read, self.told, self.clock = table, read, read - 1, clock
+        self.heads, self.relation = InsertHeads(table, self.told), relation(table)
         self.cost = self.longest = self.count = 0
+        self.stand_at(read)
+
+    def stand_at(self, point: int) -> None:
+        """It ends there."""
+        self.point, self.lsn = point, point - 1
 
     def opening(self) -> list[bytes]:
         """Begin, Relation and Truncate."""
         truncate = struct.pack(">cIBI", b"T", 1, 0, self.table.oid)
-        items = [frame(self.lsn, it) for it in (self.relation, truncate)]
+        items = [frame(self.told, it) for it in (self.relation, truncate)]
         self.cost += sum(len(it) - AROUND + BUFFERED for it in items)
         return [frame(self.lsn, begin(self.lsn, XID, self.clock)), *items]
 

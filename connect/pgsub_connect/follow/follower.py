@@ -14,6 +14,7 @@ from ..stream.common import Common
 from ..stream.filter import Filter
 from ..stream.filter_end import FilterEnded
 from ..stream.missed_rows import Misses
+from ..stream.place import Place
 from ..stream.statuses import Confirming
 from ..stream.stream_log import Noting
 from ..stream.transactions import Skipping
@@ -57,12 +58,19 @@ class Follower:
         self.confirming = confirming = Confirming(child, self.noting, self.misses)
         form = StreamForm(settings.proto, Skipping(settings.skip, common), settings.messages)
         self.life = FilterLife(limits, confirming, watch, form, self.ending, feeding)
-        schedule = Schedule(settings, confirming, snapshots.hold)
+        hold, place = snapshots.hold, Place()
+        schedule = Schedule(settings, confirming, hold, place)
         self.standing = Standing(child, progress)
         upkeep = Upkeep(self.life, schedule, self.standing)
-        self.adder = Adder(common, store, limits, watch, confirming, snapshots.hold, upkeep)
+        self.adder = Adder(
+            *(common, store, limits, watch, confirming, hold, place, upkeep),
+            wake=snapshots.requests.wake,
+        )
         repairing = Repairing(snapshots, upkeep)
-        asked = form.is_streaming, confirming.reached, progress.server.note_standbys
+        asked = (
+            *(form.is_streaming, self.adder.is_adding),
+            *(confirming.reached, progress.server.note_standbys),
+        )
         snapshots.note_follower(self.adder.take, *asked)
         self.requests = Requests(self.adder, repairing, upkeep)
         fitting = Fitting(settings.no_copy, watch)

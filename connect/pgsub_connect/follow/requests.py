@@ -118,7 +118,7 @@ class Requests:
         is_due = self.snapshots.is_due(self.confirming.position)
         self.tell_readers()
         if not is_due:
-            return self.hold.stops()
+            return self.stops()
         if self.filter.is_running() and not self.confirming.is_stored():
             return True
         if self.hold.keeps:
@@ -129,7 +129,11 @@ class Requests:
             # (whoever has called this sees that, and ends)
             self.snapshots.take(self.confirming.position, self.serve_copy)
         self.progress.enter(state)
-        return self.hold.stops()
+        return self.stops()
+
+    def stops(self) -> bool:
+        """Whether nothing may be passed on now."""
+        return self.hold.stops() or self.adder.place.stops()
 
     def tell_readers(self) -> None:
         """Tells those who read beside the follower what the store has now."""
@@ -150,8 +154,6 @@ class Requests:
         """Goes on, whatever the stream is held for."""
         if self.hold.keeps:
             self.repairing.give_up(why, False, delays=True)
-        elif self.hold.into:
+        else:
             self.snapshots.reject(why)
             self.hold.end()
-        else:
-            self.adder.let_go(why)

@@ -6,22 +6,25 @@ from ..errors import ServerError
 from ..stream.awake import NEEDED, Awake, processors
 from ..stream.gate import LOOK as GATE
 from ..stream.hold import Hold
+from ..stream.place import Place
 from ..stream.statuses import Confirming
 from .filter_life import STEP
 from .settings import FollowSettings
 
 # After how many seconds a lost session is begun anew, at first and at most.
 FIRST_DELAY, LONGEST_DELAY = 1.0, 60.0
-# How often the server is asked how far it is where a copy at an LSN is waited for, in seconds.
+# How often the server is asked how far it is where an LSN is waited for, in seconds.
 ASK = 0.3
 
 
 class Schedule:
     """The times of a session."""
 
-    def __init__(self, settings: FollowSettings, confirming: Confirming, hold: Hold) -> None:
+    def __init__(
+        self, settings: FollowSettings, confirming: Confirming, hold: Hold, place: Place
+    ) -> None:
         self.silence, self.longest_heartbeat = settings.silence, settings.heartbeat
-        self.confirming, self.hold = confirming, hold
+        self.confirming, self.hold, self.place = confirming, hold, place
         self.heartbeat = settings.heartbeat
         # when the server was heard last, as far as anything of it was waited for
         self.heard = time.monotonic()
@@ -68,7 +71,7 @@ class Schedule:
         limit = self.silence
         if silent > limit:
             raise self.silent_error()
-        waits = self.hold.is_going()
+        waits = self.hold.is_going() or self.place.seeks
         every = ASK if waits else min(self.heartbeat, limit / 4)
         if time.monotonic() - self.confirming.last_sent >= every:
             self.confirming.repeat(asks=waits or silent > limit / 2)

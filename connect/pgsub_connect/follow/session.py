@@ -104,7 +104,11 @@ class Session:
             return more
         if hold.limit() is not None:
             payloads = hold.passing(payloads, bool(self.noting.begun))
-        recorded, leaving = payloads, self.requests.adder.leaving
+        place, leaving = self.requests.adder.place, self.requests.adder.leaving
+        if place.is_open:
+            payloads, behind = place.passing(payloads, bool(self.noting.begun))
+            hold.kept = [*behind, *hold.kept]
+        recorded = payloads
         if leaving.points:
             payloads = leaving.passing(payloads)
         if self.recording:
@@ -138,7 +142,7 @@ class Session:
         now = time.monotonic()
         self.schedule.note_heard(now - self.silent)
         self.schedule.keep_alive(self.silent)
-        self.standing.check(self.schedule.silence, self.hold.stops())
+        self.standing.check(self.schedule.silence, self.requests.stops())
         self.delay.note_lasting(now - began, self.schedule.heartbeat)
 
     def ends_for_another(self, connection: Connection) -> bool:

@@ -51,8 +51,10 @@ class Snapshots:
         self.hold = Hold()
         # takes the tables of a request to add some, and returns why it doesn't
         self.adds: Callable[[dict[str, Any]], str | None] = lambda asked: "no table can be added"
-        # of the follower: whether large transactions are streamed, and an LSN above all passed on
+        # of the follower: whether large transactions are streamed, whether a table is being added,
+        # and an LSN above all passed on
         self.is_streaming: Callable[[], bool] = lambda: False
+        self.is_adding: Callable[[], bool] = lambda: False
         self.reached: Callable[[], int] = lambda: 0
         # whether commits wait for it, by these synchronous_standby_names where they are told
         self.delays_commits: Callable[[str], bool] = lambda standbys: False
@@ -63,11 +65,12 @@ class Snapshots:
         self,
         adds: Callable[[dict[str, Any]], str | None],
         is_streaming: Callable[[], bool],
+        is_adding: Callable[[], bool],
         reached: Callable[[], int],
         delays_commits: Callable[[str], bool],
     ) -> None:
         """Notes what a follower knows, and does, of which copies depend."""
-        self.adds, self.is_streaming = adds, is_streaming
+        self.adds, self.is_streaming, self.is_adding = adds, is_streaming, is_adding
         self.reached, self.delays_commits = reached, delays_commits
 
     def ask(self) -> None:
@@ -78,9 +81,6 @@ class Snapshots:
     def is_due(self, position: int) -> bool:
         """Whether to copy a store at this position: asked for, or due and newer than the last."""
         self.requests.tend()
-        if self.hold.is_held and self.hold.into is None:
-            # (a table is being added: copies wait)
-            return False
         self.look(position)
         if self.finishing:
             return False
@@ -127,7 +127,7 @@ class Snapshots:
         self.requests.take()
         if why:
             client.end(error=why)
-        elif asked["ask"] == "hold":
+        elif asked["ask"] == "hold" and into:
             self.client = client
             self.hold.begin(into, asked["seconds"], "repair" in asked, self.maker(asked))
             client.answer(held=lsn_text(position))
@@ -149,6 +149,8 @@ class Snapshots:
         seconds: Any = asked.get("seconds")
         if type(seconds) not in (int, float) or not 0 < seconds <= LONGEST:
             return f"it may be held for {LONGEST:.0f} seconds at most"
+        if "repair" in asked and self.is_adding():
+            return "a table is being added: repair rows once it is there"
         if not self.delays_commits(str(asked.get("standbys", ""))):
             return ""
         if not self.maker(asked):

@@ -25,15 +25,13 @@ import contextlib
 import fcntl
 import os
 import tempfile
-import threading
 import time
 from collections.abc import Callable
 
-from pgsub_feed.errors import Passing, Stopped, Unfit
 from pgsub_feed.interruption import Check
 from pgsub_feed.texts import parse_lsn
 
-from ..errors import NoSlot, ServerError, understood
+from ..errors import ServerError, understood
 from ..server.connection import QUICK, Connection
 from ..server.session import Subscription
 from ..status.progress import Progress
@@ -123,39 +121,6 @@ class Gating:
         if self.connection:
             self.connection.close()
         self.connection, self.end, self.next = None, 0, 0.0
-
-
-class Making(threading.Thread):
-    """Makes a slot while the follower goes on, by a call that gives its consistent point and its
-    snapshot."""
-
-    def __init__(self, make: Callable[[Check], tuple[int, str]]) -> None:
-        super().__init__(daemon=True)
-        self.make = make
-        self.given_up = threading.Event()
-        self.made: tuple[int, str] | None = None
-        self.error: Exception | None = None
-
-    def run(self) -> None:
-        try:
-            self.made = self.make(self.check)
-        except (ServerError, Passing, Unfit, NoSlot, Stopped) as error:
-            self.error = error
-
-    def check(self) -> None:
-        if self.given_up.is_set():
-            raise Stopped
-
-    def give_up(self) -> None:
-        """Ends it, before its connection is closed."""
-        self.given_up.set()
-        self.join()
-
-    def result(self) -> tuple[int, str]:
-        """The slot's consistent point and its snapshot, of one that has ended."""
-        if self.made is None:
-            raise self.error or ServerError("the slot isn't made")
-        return self.made
 
 
 def too_large_to_copy(store: str) -> str:

@@ -1,5 +1,5 @@
 """Stops the stream between two commits, so that the copy is exactly that of one LSN: for
-`pgsub-connect verify`, or to add or repair rows.
+`pgsub-connect verify`, or to repair rows.
 
 That LSN is a slot's consistent point P, and the server is read under the snapshot that the slot
 exports. It "will show exactly the state of the database after which all changes will be included in
@@ -66,7 +66,7 @@ class Hold:
 
     def __init__(self) -> None:
         self.is_held = False
-        # the file that is to be copied to, None where the stream is held for a table that is added
+        # the file that is to be copied to
         self.into: str | None = None
         self.point: int | None = None
         self.until = 0.0
@@ -82,7 +82,7 @@ class Hold:
         self.is_there = self.is_at_gate = False
         self.kept: list[bytes] = []
 
-    def begin(self, into: str | None, seconds: float, keeps: bool = False, maker: int = 0) -> None:
+    def begin(self, into: str, seconds: float, keeps: bool = False, maker: int = 0) -> None:
         """Nothing is passed on from now on, or as far as a gate lets it."""
         self.end()
         self.is_held, self.into, self.keeps, self.maker = True, into, keeps, maker

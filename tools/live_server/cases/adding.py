@@ -3,6 +3,8 @@ refused."""
 
 from __future__ import annotations
 
+import functools
+import itertools
 import json
 import os
 import random
@@ -161,17 +163,25 @@ def last(*words, **more):
     {before}
     os._exit(77)
 setattr(where, name, last)
+adder.HELD = {held}
 sys.argv[0] = {house!r} + "/pgsub-connect"
 cli.run()
 """
 
 
-def killed_at(place: Place, where: str, name: str, after: bool, times: int = 0) -> Child:
+def killed_at(
+    place: Place, where: str, name: str, after: bool, times: int = 0, held: float = 1.0
+) -> Child:
     """Starts the connector, which ends at once where it makes a call of those that add tables for
-    so many times and once more."""
+    so many times and once more. `held`: for how many seconds it holds the stream for rows."""
     before = "real(*words, **more)" if after else "pass"
     code = KILLED_AT.format(
-        house=str(place.options.connect.parent), where=where, name=name, before=before, times=times
+        house=str(place.options.connect.parent),
+        where=where,
+        name=name,
+        before=before,
+        times=times,
+        held=held,
     )
     return place.started([sys.executable, "-c", code, *place.words()[1:]])
 
@@ -181,11 +191,11 @@ def killed_at(place: Place, where: str, name: str, after: bool, times: int = 0) 
 CUTS = (
     ("replacement.LeftOut", "fill", False, 0),
     ("replacement.LeftOut", "fill", True, 0),
-    ("adder.Adder", "prepare", True, 0),
-    ("adder.Adder", "meet", False, 0),
+    ("adder.Adder", "begin_reading", True, 0),
     ("turn.Source", "make_slot", True, 0),
     ("turn.Source", "see", True, 0),
-    ("adder.Adder", "meet", True, 0),
+    ("adder.Adder", "end_reading", False, 0),
+    ("adder.Adder", "end_reading", True, 0),
     ("adder.Adder", "send", False, 0),
     ("turn.RowsSender", "push", True, 3),
     ("turn.RowsSender", "push", True, 5),
@@ -198,16 +208,17 @@ CUTS = (
 
 
 def cut(place: Place) -> None:
-    """The connector is killed at each step: it goes on, and the copy is that of the server."""
+    """The connector is killed at each step, whether the stream is held for the rows or goes on: it
+    goes on, and the copy is that of the server."""
     place.stock()
     place.run(*MORE)
     place.follow("--create")
     place.run("ALTER PUBLICATION pgsub ADD TABLE more", "INSERT INTO more VALUES (-1, 'new')")
     place.follow()
-    for where, name, after, times in CUTS:
+    for (where, name, after, times), held in itertools.product(CUTS, (1.0, -1.0)):
         add(place, "more")
         change_all(place)
-        place.has_ended(killed_at(place, where, name, after, times), 77, "")
+        place.has_ended(killed_at(place, where, name, after, times, held), 77, "")
         change_all(place)
         goes_on(place, f"cut at {name}")
 
@@ -267,6 +278,44 @@ def parts_killed(place: Place) -> None:
         check_left(place)
         child.stop()
         place.equal()
+
+
+def beside(place: Place) -> None:
+    """While the rows of a table are read, which takes long, others are followed, and its changes are
+    kept."""
+    place.stock()
+    place.run(*MORE)
+    place.run("ALTER PUBLICATION pgsub ADD TABLE more")
+    place.follow("--create")
+    proxy = place.proxy()
+    child = place.start(dsn=place.dsn(proxy.folder))
+    child.wait_for("following slot")
+
+    def change(*commands: str) -> None:
+        """Is called before the rows come: what is committed is confirmed before they do."""
+        change_all(place)
+        place.run(*commands)
+        change_all(place)
+        end = place.value("SELECT pg_current_wal_insert_lsn()")
+        place.run("UPDATE stock SET quantity = quantity + 1 WHERE sku = 1")
+        wait_until(
+            lambda: place.has_confirmed(end, place.cluster), "following meanwhile", 30, child.check
+        )
+
+    for commands in (
+        ("UPDATE more SET id = -id WHERE id % 3 = 0", "DELETE FROM more WHERE id % 5 = 1"),
+        ("DELETE FROM more", "INSERT INTO more VALUES (5, 'five'), (-9, NULL)", "TRUNCATE stock"),
+        ("BEGIN; UPDATE more SET note = 'x'; ROLLBACK",),
+    ):
+        proxy.before('FROM ONLY "public"."more"', functools.partial(change, *commands))
+        adding = place.started(words(place, "more"))
+        place.has_ended(adding, OK, "", 90)
+        change_all(place)
+        place.catch_up(child)
+        verify(place)
+        check_left(place)
+    child.stop()
+    place.equal()
 
 
 def too_large(place: Place) -> None:
@@ -578,6 +627,7 @@ CASES = (
     Case("add-a-table-that-clashes", clashes),
     Case("add-cut-at-each-step", cut),
     Case("add-parts-killed", parts_killed),
+    Case("add-beside-the-stream", beside),
     Case("add-too-large", too_large),
     Case("add-altered-meanwhile", altered),
     Case("add-a-root-that-is-altered-alone", root_altered),

@@ -1,0 +1,94 @@
+"""Where in a stream a transaction may stand that is the connector's own, as that of the rows of a
+table that is added.
+
+Its LSNs are above all that was passed on, and none that comes behind is below them. Two such places
+can be told:
+
+- a slot's consistent point, where nothing was passed on since before the slot was asked for, as the
+  module `stream.hold` says;
+- else the LSN of the first of these that is above all that was passed on: a Begin with such a final
+  LSN, or a keepalive between transactions with such an end. That is above the end of each commit and
+  each keepalive. The record of a commit may begin where the one before it ends: there is no place
+  between these.
+
+The transaction stands before the first Begin with a final LSN of the place or above it, and the
+first keepalive between transactions with such an end.
+
+Where nothing happens at the server, none of the two would come. So a keepalive between transactions
+that is above all that was passed on is kept back until something comes behind it. (The server hears
+of the connector meanwhile as at any time when little happens. A primary server that has just become
+quiet writes a record within 15 seconds.)
+"""
+
+from .messages import BEGIN, COMMIT, final_lsn, number
+
+
+class Place:
+    """Looks for one. `point`: its LSN, once the stream is there, and 0 before."""
+
+    def __init__(self) -> None:
+        self.kept: list[bytes] = []
+        self.end()
+
+    def begin(self, reached: int, holds: bool) -> None:
+        """One will be looked for. `reached`: an LSN that nothing that was passed on is above;
+        `holds`: nothing is passed on from now on."""
+        self.end()
+        self.is_open, self.reached, self.holds = True, reached, holds
+
+    def go_on(self) -> None:
+        """The stream goes on."""
+        self.holds = False
+
+    def seek(self, point: int) -> None:
+        """It is looked for from now on: this point of a slot, where nothing was passed on since."""
+        self.seeks, self.least = True, point if self.holds else 0
+        self.holds = False
+
+    def end(self) -> list[bytes]:
+        """None is looked for any more. Returns what was kept back."""
+        kept, self.kept = self.kept, []
+        self.is_open = self.holds = self.seeks = False
+        self.point = self.least = self.reached = 0
+        return kept
+
+    def is_found(self) -> bool:
+        """Whether the stream is there. Nothing is passed on as long as it is."""
+        return self.point > 0
+
+    def stops(self) -> bool:
+        """Whether nothing may be passed on now."""
+        return self.holds or self.is_found()
+
+    def passing(self, payloads: list[bytes], is_inside: bool) -> tuple[list[bytes], list[bytes]]:
+        """What of payloads is passed on now, and what comes behind the place, if that is among them.
+        `is_inside`: they begin between Begin and Commit."""
+        payloads, self.kept = [*self.kept, *payloads], []
+        for index, payload in enumerate(payloads):
+            letter, lsn, end = payload[25] if len(payload) > 25 else 0, 0, 0
+            if letter == BEGIN:
+                lsn, is_inside = final_lsn(payload), True
+            elif letter == COMMIT:
+                end, is_inside = number(payload[35:43]), False
+            elif not letter:
+                end = number(payload[1:9])
+                lsn = 0 if is_inside else end
+            if lsn > self.reached:
+                if self.is_at(lsn):
+                    return payloads[:index], payloads[index:]
+                if not letter and not self.seeks and are_alike(payloads[index:]):
+                    self.kept = payloads[index:]
+                    return payloads[:index], []
+            self.reached = max(self.reached, end)
+        return payloads, []
+
+    def is_at(self, lsn: int) -> bool:
+        """Whether the place is before what has this LSN, which is above all that was passed on."""
+        if self.seeks and lsn >= self.least:
+            self.point = self.least or lsn
+        return self.is_found()
+
+
+def are_alike(keepalives: list[bytes]) -> bool:
+    """Whether what begins with a keepalive is keepalives of the same end alone."""
+    return all(it[:9] == keepalives[0][:9] for it in keepalives)
