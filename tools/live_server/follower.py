@@ -59,7 +59,12 @@ def stands_still(pid: int) -> bool:
 
 
 def children_of(pid: int, word: str) -> list[int]:
-    """The children that were started with a word. (Those of any thread: the file of one has its own
+    """The children that were started with a word."""
+    return children_with(pid, f"\0{word}\0")
+
+
+def children_with(pid: int, text: str) -> list[int]:
+    """Those that have a text in their words. (Those of any thread: the file of one has its own
     alone.)"""
     found = []
     with contextlib.suppress(FileNotFoundError, ProcessLookupError):
@@ -67,7 +72,7 @@ def children_of(pid: int, word: str) -> list[int]:
             for child in (
                 Path(f"/proc/{pid}/task/{thread}/children").read_text(encoding="ascii").split()
             ):
-                if f"\0{word}\0".encode() in Path(f"/proc/{child}/cmdline").read_bytes():
+                if text.encode() in Path(f"/proc/{child}/cmdline").read_bytes():
                     found.append(int(child))
     return found
 

@@ -267,7 +267,7 @@ def parts_killed(place: Place) -> None:
     # (it has the snapshot by then)
     reading = "state = 'idle in transaction'"
     for call in (lose("backend_type = 'walsender'"), lose(reading), kill):
-        proxy.before('FROM ONLY "public"."more"', call)
+        proxy.before('" FROM ONLY "public"."more"', call)
         child = place.start(dsn=place.dsn(proxy.folder))
         child.wait_for("following slot")
         adding = place.started(words(place, "more"))
@@ -307,7 +307,7 @@ def beside(place: Place) -> None:
         ("DELETE FROM more", "INSERT INTO more VALUES (5, 'five'), (-9, NULL)", "TRUNCATE stock"),
         ("BEGIN; UPDATE more SET note = 'x'; ROLLBACK",),
     ):
-        proxy.before('FROM ONLY "public"."more"', functools.partial(change, *commands))
+        proxy.before('" FROM ONLY "public"."more"', functools.partial(change, *commands))
         adding = place.started(words(place, "more"))
         place.has_ended(adding, OK, "", 90)
         change_all(place)

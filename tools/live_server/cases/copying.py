@@ -18,7 +18,7 @@ from pathlib import Path
 from ..child import Child
 from ..errors import Failed
 from ..feeds import compare_tables, reading
-from ..follower import children_of, is_adding, kill_all, wait_until
+from ..follower import children_with, is_adding, kill_all, wait_until
 from ..place import PASSING, SERVER, Place
 from .adding import add
 from .basing import equal
@@ -26,8 +26,9 @@ from .case import Case
 from .common import feed_of, now_in_tables, rows_file
 
 
-# What reads a table's rows. (What a start reads of the catalogs comes by COPY, too.)
-READING = 'FROM ONLY "public"."'
+# What reads a table's rows, behind its columns. (A start asks of catalogs by COPY, and of each table
+# by EXPLAIN.)
+READING = '" FROM ONLY "public"."'
 
 
 def is_followed(store: Path) -> bool:
@@ -143,7 +144,8 @@ def cut(place: Place) -> None:
     for it in tables:
         place.run(
             f"CREATE TABLE {it} (id int PRIMARY KEY, note text)",
-            f"INSERT INTO {it} SELECT it, '{it} ' || it FROM generate_series(1, 3000) it",
+            # (more than are stored at a time: a copy of which nothing is stored begins anew)
+            f"INSERT INTO {it} SELECT it, '{it} ' || it || repeat('.', 1000) FROM generate_series(1, 3000) it",
         )
     proxy, count = place.proxy(), itertools.count()
 
@@ -274,7 +276,7 @@ def killed_with_tables(place: Place, moment: str) -> None:
     def hold() -> None:
         if next(count) < 2:
             return
-        makers = children_of(child.process.pid, str(rows_file(place)))
+        makers = children_with(child.process.pid, "copied_rows.run()")
         if moment == "reading":
             child.kill()
         elif moment == "process":
