@@ -15,6 +15,9 @@ from .settings import FollowSettings
 FIRST_DELAY, LONGEST_DELAY = 1.0, 60.0
 # How often the server is asked how far it is where an LSN is waited for, in seconds.
 ASK = 0.3
+# How often the last status is repeated where commits at the server wait for it, in seconds. A server
+# lets none go by what it is told while a new session still reads what was before.
+AGAIN = 0.2
 
 
 class Schedule:
@@ -47,8 +50,13 @@ class Schedule:
     def silent_error(self) -> ServerError:
         return ServerError(f"the server said nothing for {self.silence:.0f} seconds")
 
+    def every(self) -> float:
+        """How often the last status is repeated, in seconds."""
+        is_waited_for = self.confirming.progress.server.is_waited_for
+        return min(self.heartbeat, AGAIN) if is_waited_for else self.heartbeat
+
     def is_status_due(self) -> bool:
-        return time.monotonic() - self.confirming.last_sent >= self.heartbeat
+        return time.monotonic() - self.confirming.last_sent >= self.every()
 
     def awake(self) -> Awake | None:
         """What waits for the filter, or for the next commit, where commits at the server wait."""
@@ -59,7 +67,7 @@ class Schedule:
     def longest_wait(self, has_more: bool) -> float:
         """How many seconds a session waits at most. `has_more`: something has come already."""
         confirming = self.confirming
-        wait = 0.0 if has_more else self.heartbeat - (time.monotonic() - confirming.last_sent)
+        wait = 0.0 if has_more else self.every() - (time.monotonic() - confirming.last_sent)
         if confirming.held:
             wait = min(wait, confirming.quiet() - (time.monotonic() - confirming.last_moved))
         if self.hold.is_gated():
@@ -72,7 +80,7 @@ class Schedule:
         if silent > limit:
             raise self.silent_error()
         waits = self.hold.is_going() or self.place.seeks
-        every = ASK if waits else min(self.heartbeat, limit / 4)
+        every = ASK if waits else min(self.every(), limit / 4)
         if time.monotonic() - self.confirming.last_sent >= every:
             self.confirming.repeat(asks=waits or silent > limit / 2)
 

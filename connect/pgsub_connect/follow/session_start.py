@@ -105,6 +105,7 @@ class SessionStart:
         is_whole = not (self.requests.adder.leaving.points or self.form.skipping.is_pending)
         at = self.comparing.begin_session(is_whole)
         self.start_replication(connection, server, at)
+        self.confirming.forward_new()
         self.fitting.check_slot(self.confirming.position, self.ending.check_stop)
         # (what comes later isn't what was accepted)
         self.tolerance.end()

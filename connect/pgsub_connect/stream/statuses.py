@@ -130,6 +130,12 @@ class Confirming:
         if self.held and time.monotonic() - self.last_moved >= self.quiet():
             self.release()
 
+    def forward_new(self) -> None:
+        """Passes on what the filter has confirmed since the session is about to begin: a commit of the
+        session before may have been stored meanwhile, for which the server waits still."""
+        if self.filter.status != self.told:
+            self.forward([self.filter.status])
+
     def quiet(self) -> float:
         """After how many seconds a position that a keepalive alone has moved is passed on again."""
         return min(QUIET, PART * self.noted_in) if self.progress.server.is_waited_for else QUIET
