@@ -815,9 +815,23 @@ BUGS = (
     Bug(
         "a quiet server's last keepalive isn't kept back",
         "pgsub_connect/stream/place.py",
-        "not self.seeks and are_alike(payloads[index:]):",
-        "not self.seeks and not payloads[index:]:",
+        "and not self.seeks and are_alike(payloads[index:]):",
+        "and not self.seeks and not payloads[index:]:",
         ("test_place",),
+    ),
+    Bug(
+        "what is stored as a session begins is never confirmed in it",
+        "pgsub_connect/follow/session_start.py",
+        "        self.confirming.forward_new()\n",
+        "",
+        ("test_gating",),
+    ),
+    Bug(
+        "commits wait for a keepalive that is kept back",
+        "pgsub_connect/stream/place.py",
+        "self.holds = self.keeps = not is_urgent",
+        "self.holds, self.keeps = not is_urgent, True",
+        ("test_place", "test_gating"),
     ),
     Bug(
         "the rows of a slot stand behind what its snapshot doesn't see",

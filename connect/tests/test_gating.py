@@ -4,19 +4,24 @@ from __future__ import annotations
 
 import contextlib
 import os
+import signal
+import time
 import unittest
 from unittest import mock
 
 from pgsub_connect.add import requests, turn
-from pgsub_connect.errors import Delayed, ServerError, Unrepaired
+from pgsub_connect.errors import Delayed, NoSlot, ServerError, Unrepaired
 from pgsub_connect.follow import schedule
+from pgsub_connect.follow.session_start import Comparing
 from pgsub_connect.server import session
 from pgsub_connect.server.session import Subscription
 from pgsub_connect.status.progress import Progress
+from pgsub_connect.store.repeats_file import RepeatsFile
 from pgsub_connect.stream import gate
 from pgsub_connect.stream.gate import Gating, is_shared, too_large_to_copy
 from pgsub_connect.stream.hold import Hold
 from pgsub_connect.stream.messages import flushed
+from pgsub_connect.stream.place import Place
 from pgsub_connect.verify import store as verify_store
 from pgsub_connect.verify.comparison import Compared
 from pgsub_connect.verify.store import Request
@@ -290,6 +295,51 @@ class Synchronous(AddingCase):
         self.assertEqual(confirmed, [True] * len(confirmed))
         self.assertGreater(len(confirmed), 2)
 
+    def test_what_is_stored_as_a_session_begins_is_confirmed(self) -> None:
+        """A commit that the session before has passed on, and that nothing comes behind."""
+        run = Run(self)
+        self.assertTrue(run.until(lambda: run.progress.state == "following"))
+        begin_anew = Comparing.begin_anew
+
+        def stores(it: Comparing, file: RepeatsFile, is_whole: bool) -> None:
+            os.kill(run.filter.pid(), signal.SIGCONT)
+            begin_anew(it, file, is_whole)
+
+        self.patch(Comparing, "begin_anew", stores)
+        os.kill(run.filter.pid(), signal.SIGSTOP)
+        self.world.commit(insert(OTHER, (7779, "late")))
+        end = self.world.commits[-1][0]
+        self.assertTrue(run.until(lambda: bool(run.follower.noting.ends)))
+        WorldSource.hook = staticmethod(mock.Mock(side_effect=NoSlot("late")))
+        run.calls.append(lambda: run.remembered.want([T]))
+        self.assertTrue(wait_for(lambda: self.is_confirmed(end), 10), self.said)
+        run.end()
+
+    def test_keepalives_pass_while_rows_are_read(self) -> None:
+        """They confirm commits that change nothing that is published."""
+        passed = list[bool]()
+        self.spoil()
+        self.want(T)
+        run = list[Run]()
+
+        def hook(name: str) -> None:
+            if name == "COPY":
+                wait_for(lambda: bool(run))
+                place = run[0].follower.adder.place
+                self.world.end += RUNNING
+                end = self.world.end
+                payloads = [keepalive(end)]
+                passed.append(wait_for(lambda: not (place.holds or place.keeps)))
+                passed.append(place.passing(payloads, False) == (payloads, []))
+
+        WorldSource.hook = staticmethod(hook)
+        run.append(Run(self))
+        self.assertTrue(
+            run[0].until(lambda: not run[0].remembered.wanted), (self.said, run[0].raised)
+        )
+        run[0].end()
+        self.assertEqual(passed, [True, True])
+
     def test_rows_that_take_too_long(self) -> None:
         """The table is refused, and another session begins at once."""
         self.patch(turn, "LONGEST_WAIT", 0.0)
@@ -336,6 +386,17 @@ class Synchronous(AddingCase):
         WorldSource.hook = staticmethod(hook)
         self.goes_on()
         self.assertEqual(told, [True])
+
+
+class Repeated(unittest.TestCase):
+    def test_statuses_come_more_often_where_commits_wait(self) -> None:
+        settings, confirming = mock.Mock(silence=60.0, heartbeat=10.0), mock.Mock()
+        confirming.last_sent = time.monotonic() - 1.0
+        times = schedule.Schedule(settings, confirming, Hold(), Place())
+        for waits in (False, True):
+            confirming.progress.server.is_waited_for = waits
+            times.keep_alive(0.0)
+            self.assertEqual((times.is_status_due(), confirming.repeat.called), (waits, waits))
 
 
 class Tries(unittest.TestCase):

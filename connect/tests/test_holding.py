@@ -53,7 +53,9 @@ class Holds(unittest.TestCase):
         self.filter.input.waiting = 0
         self.filter.confirmed.return_value = 0x100
         repairing = mock.Mock(snapshots=self.snapshots, hold=self.snapshots.hold)
-        self.requests = Asked(mock.Mock(), repairing, upkeep)
+        adder = mock.Mock()
+        adder.place.stops.return_value = False
+        self.requests = Asked(adder, repairing, upkeep)
 
     def confirm(self, confirmed: int, position: int) -> int:
         while self.noting.ends and self.noting.ends[0] <= confirmed:

@@ -18,7 +18,12 @@ def pair(lsn: int, end: int = 0) -> list[bytes]:
 class Places(unittest.TestCase):
     def setUp(self) -> None:
         self.place = Place()
-        self.place.begin(0x100, holds=False)
+        self.begin()
+
+    def begin(self) -> None:
+        """Begins with a stream that goes on."""
+        self.place.begin(0x100)
+        self.place.go_on()
 
     def passed(self, *payloads: bytes, is_inside: bool = False) -> tuple[list[bytes], list[bytes]]:
         return self.place.passing(list(payloads), is_inside)
@@ -65,8 +70,22 @@ class Places(unittest.TestCase):
             [keepalive(0x200), *pair(0x200)],
             [begin(0x200, 7), keepalive(0x300)],
         ):
-            self.place.begin(0x100, holds=False)
+            self.begin()
             self.assertEqual(self.passed(*payloads), (payloads, []))
+
+    def test_none_is_where_commits_wait(self) -> None:
+        """Also where they do so from some moment on."""
+        self.place.begin(0x100, is_urgent=True)
+        self.assertFalse(self.place.stops())
+        self.assertEqual(self.passed(keepalive(0x200)), ([keepalive(0x200)], []))
+        self.begin()
+        self.passed(keepalive(0x200))
+        self.assertEqual(self.place.hurry(), [keepalive(0x200)])
+        self.assertEqual(self.passed(keepalive(0x200)), ([keepalive(0x200)], []))
+        self.place.begin(0x100)
+        self.assertEqual((self.place.hurry(), self.place.stops()), ([], False))
+        self.place.seek(0x80)
+        self.assertEqual(self.passed(keepalive(0x300)), ([], [keepalive(0x300)]))
 
     def test_what_was_kept_back_goes_on(self) -> None:
         self.passed(keepalive(0x200))
@@ -80,7 +99,7 @@ class Places(unittest.TestCase):
             ([keepalive(0x200)], 0x200),
             (pair(0x210), 0x200),
         ):
-            self.place.begin(0x100, holds=True)
+            self.place.begin(0x100)
             self.assertTrue(self.place.stops())
             self.place.seek(0x200)
             self.assertFalse(self.place.stops())
@@ -90,7 +109,7 @@ class Places(unittest.TestCase):
 
     def test_held_for_too_long(self) -> None:
         """The slot's point may be below what was passed on then."""
-        self.place.begin(0x100, holds=True)
+        self.place.begin(0x100)
         self.place.go_on()
         self.passed(*pair(0x300))
         self.place.seek(0x200)

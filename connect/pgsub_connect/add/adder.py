@@ -213,7 +213,9 @@ class Adder:
             if turn.has_read():
                 self.end_reading(turn)
                 return
-            if time.monotonic() > self.until or self.progress.server.is_waited_for:
+            if self.progress.server.is_waited_for:
+                self.hold.kept = [*self.place.hurry(), *self.hold.kept]
+            elif time.monotonic() > self.until:
                 self.place.go_on()
             if turn.text != self.text:
                 self.show(turn.text)
@@ -238,8 +240,7 @@ class Adder:
             self.turn = turn = Turn(*asked, self.limits, server, folder, self.wake)
             self.kept = kept = KeptChanges(oid, folder, self.confirming.reached())
             self.leaving.kept = kept
-            # (commits that wait for the follower aren't held)
-            self.place.begin(kept.reached, holds=not server.is_waited_for)
+            self.place.begin(kept.reached, is_urgent=server.is_waited_for)
             self.until = time.monotonic() + HELD
             turn.start()
         except OSError as error:

@@ -17,7 +17,8 @@ first keepalive between transactions with such an end.
 Where nothing happens at the server, none of the two would come. So a keepalive between transactions
 that is above all that was passed on is kept back until something comes behind it. (The server hears
 of the connector meanwhile as at any time when little happens. A primary server that has just become
-quiet writes a record within 15 seconds.)
+quiet writes a record within 15 seconds.) Not so where commits at the server wait for the follower:
+what confirms one that changes nothing that is published is a keepalive.
 """
 
 from .messages import BEGIN, COMMIT, final_lsn, number
@@ -30,15 +31,22 @@ class Place:
         self.kept: list[bytes] = []
         self.end()
 
-    def begin(self, reached: int, holds: bool) -> None:
-        """One will be looked for. `reached`: an LSN that nothing that was passed on is above;
-        `holds`: nothing is passed on from now on."""
+    def begin(self, reached: int, is_urgent: bool = False) -> None:
+        """One will be looked for, and nothing is passed on from now on, unless `is_urgent`: commits
+        wait. `reached`: an LSN that nothing that was passed on is above."""
         self.end()
-        self.is_open, self.reached, self.holds = True, reached, holds
+        self.is_open, self.reached = True, reached
+        self.holds = self.keeps = not is_urgent
 
     def go_on(self) -> None:
         """The stream goes on."""
         self.holds = False
+
+    def hurry(self) -> list[bytes]:
+        """Commits wait from now on: nothing is held or kept back. Returns what was."""
+        kept, self.kept = self.kept, []
+        self.holds = self.keeps = False
+        return kept
 
     def seek(self, point: int) -> None:
         """It is looked for from now on: this point of a slot, where nothing was passed on since."""
@@ -48,7 +56,7 @@ class Place:
     def end(self) -> list[bytes]:
         """None is looked for any more. Returns what was kept back."""
         kept, self.kept = self.kept, []
-        self.is_open = self.holds = self.seeks = False
+        self.is_open = self.holds = self.keeps = self.seeks = False
         self.point = self.least = self.reached = 0
         return kept
 
@@ -76,7 +84,7 @@ class Place:
             if lsn > self.reached:
                 if self.is_at(lsn):
                     return payloads[:index], payloads[index:]
-                if not letter and not self.seeks and are_alike(payloads[index:]):
+                if not letter and self.keeps and not self.seeks and are_alike(payloads[index:]):
                     self.kept = payloads[index:]
                     return payloads[:index], []
             self.reached = max(self.reached, end)
