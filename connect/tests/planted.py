@@ -792,6 +792,13 @@ BUGS = (
         ("test_kept_changes",),
     ),
     Bug(
+        "changes that the disk had no room for are forgotten",
+        "pgsub_connect/add/kept_changes.py",
+        "        if self.error:\n            raise self.error",
+        "        return",
+        ("test_kept_changes", "test_adding_beside"),
+    ),
+    Bug(
         "a Truncate of several tables isn't kept",
         "pgsub_connect/add/replacement.py",
         "if self.kept and self.leaves_out(self.kept.oid):",

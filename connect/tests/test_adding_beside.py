@@ -9,7 +9,7 @@ import unittest
 from collections.abc import Callable
 from unittest import mock
 
-from pgsub_connect.add import adder, turn
+from pgsub_connect.add import adder, kept_changes, turn
 from pgsub_connect.add.adder import Adder
 from pgsub_connect.add.kept_changes import KeptChanges
 from pgsub_connect.add.turn import RowsSender
@@ -158,6 +158,27 @@ class Beside(Case):
         self.assertTrue(run.until(lambda: self.is_stored(run)))
         run.end()
         room[0] = 1 << 30
+        self.goes_on()
+
+    def test_a_disk_that_is_full_of_changes(self) -> None:
+        """What is kept has no room: it is tried again."""
+        self.patch(kept_changes, "BLOCK", 1)
+        full, real = list[int](), WaitingFrames.append
+
+        def append(frames: WaitingFrames, block: bytes) -> None:
+            if frames is run.follower.adder.kept.frames and not full:  # type: ignore[union-attr]
+                full.append(1)
+                raise OSError(errno.ENOSPC, "No space left on device")
+            real(frames, block)
+
+        self.patch(WaitingFrames, "append", append)
+        self.want(T)
+        run = self.running("COPY", lambda it: self.committed(it, self.change))
+        self.assertTrue(run.until(lambda: not run.remembered.wanted), (self.said, run.raised))
+        run.end()
+        self.assertIsNone(run.raised)
+        self.assertEqual(sum("No space left" in it for it in self.said), 1, self.said)
+        self.at("none", self.change)
         self.goes_on()
 
     def test_a_disk_that_fails(self) -> None:

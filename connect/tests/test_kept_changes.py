@@ -33,6 +33,7 @@ class Kept(Case):
         self.addCleanup(self.kept.close)
 
     def payloads(self, told: int = R - 1) -> list[bytes]:
+        self.kept.require()
         return [it for block in self.kept.blocks(told) for it in block]
 
     def told(self, *payloads: bytes, told: int = R - 1) -> list[bytes]:
@@ -99,6 +100,16 @@ class Kept(Case):
             self.kept.begin_at(R)
             self.assertEqual(self.kept.has_others(FIRST), others, (hex(lsn), definition))
             self.kept.close()
+
+    def test_a_disk_that_is_full(self) -> None:
+        """The stream goes on, and it is told where they are needed."""
+        self.patch(kept_changes, "BLOCK", 1)
+        self.kept.add(R, insert(T), FIRST)
+        with mock.patch.object(self.kept.frames, "append", side_effect=OSError(28, "full")):
+            self.kept.add(R, insert(T), FIRST)
+        self.kept.add(R, insert(T), FIRST)
+        with self.assertRaisesRegex(OSError, "full"):
+            self.kept.require()
 
     def test_frames(self) -> None:
         payloads = [insert(T), truncate(T)]

@@ -263,6 +263,7 @@ class Adder:
         try:
             if turn.error:
                 raise turn.error
+            self.kept.require()
             if turn.rows and turn.rows.read <= self.kept.reached:
                 at, reached = lsn_text(turn.rows.read), lsn_text(self.kept.reached)
                 text = (
@@ -324,6 +325,7 @@ class Adder:
         self.remembered.replaced(turn.relation(), rows.lsn)
         self.sent = rows
         try:
+            kept.require()
             turn.check_size(rows, kept.size())
             self.sender.send(turn, rows, kept)
         except TooLarge as error:

@@ -27,13 +27,15 @@ class KeptChanges:
         # P, the first block that isn't left out; until then by commit its first block
         self.point = self.first = 0
         self.starts: list[tuple[int, int]] = []
+        # why not all are kept
+        self.error: OSError | None = None
         # the final LSN of the last commit that has any, and of the last one under each definition
         self.lsn = self.count = 0
         self.definitions: dict[bytes, int] = {}
 
     def add(self, lsn: int, payload: bytes, definition: bytes) -> None:
         """Keeps a change of the commit with this final LSN, under this Relation message."""
-        if lsn < self.point:
+        if lsn < self.point or self.error:
             return
         if not self.point and lsn != self.lsn:
             self.write()
@@ -53,9 +55,19 @@ class KeptChanges:
             self.add(lsn, alone, definition)
 
     def write(self) -> None:
-        if self.pending:
-            self.frames.append(self.pending)
-            self.pending = bytearray()
+        """Puts on the disk what isn't there. (Where that fails the stream goes on.)"""
+        pending, self.pending = self.pending, bytearray()
+        if pending and not self.error:
+            try:
+                self.frames.append(pending)
+            except OSError as error:
+                self.error = error
+
+    def require(self) -> None:
+        """Raises where not all are kept."""
+        self.write()
+        if self.error:
+            raise self.error
 
     def begin_at(self, point: int) -> None:
         """P is known."""
@@ -76,7 +88,6 @@ class KeptChanges:
 
     def blocks(self, told: int) -> Iterator[list[bytes]]:
         """Yields their payloads, all of which tell the same LSN."""
-        self.write()
         head = HEAD(b"w", told, told, 0)
         for block in self.frames.blocks(self.first):
             yield [head + it[len(head) :] for it in split(block)]
