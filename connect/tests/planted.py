@@ -787,8 +787,8 @@ BUGS = (
     Bug(
         "a change of the first commit behind the slot is lost",
         "pgsub_connect/add/kept_changes.py",
-        "        if lsn < self.point:\n            return",
-        "        if lsn <= self.point:\n            return",
+        "if lsn < self.point or self.error:",
+        "if lsn <= self.point or self.error:",
         ("test_kept_changes",),
     ),
     Bug(
