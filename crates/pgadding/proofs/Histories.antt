@@ -9,7 +9,8 @@ use Rattle.pglogical.specs.declared.message.RelationDef.{RelationDef}
 use Rattle.pgsub_core.specs.Server.Work.{IsWork, xids_of, AllDiffer}
 use Rattle.pgsub_core.specs.Server.History.{Transaction, IsHistory, IsHistoryFrom, ended_after}
 use Rattle.pgadding.specs.LeftOut.{transaction_without}
-use Rattle.pgadding.specs.Addition.{OwnChange, Inserted, Updated, Deleted, Emptied, Addition, made_of, owned}
+use Rattle.pgadding.specs.Addition.{OwnChange, Inserted, Updated, Deleted, Emptied, Addition}
+use Rattle.pgadding.specs.Addition.{made_of, owned}
 use Rattle.pgadding.specs.Addition.{rows_transaction, rows_xid}
 use Rattle.pgadding.specs.Around.{IsAround, with_rows}
 use Rattle.pgadding.proofs.LeftWork.{is_work, xids-without}

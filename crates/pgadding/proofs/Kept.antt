@@ -17,7 +17,8 @@ use Rattle.pgsub_core.specs.Server.Work.{surviving_changes}
 use Rattle.pgsub_core.specs.Server.History.{Transaction, all_changes, ended_by, tables_as_of}
 use Rattle.pgsub_core.proofs.Changes.{fold-append, changes-append, ended-append, ended-none}
 use Rattle.pgadding.specs.LeftOut.{transaction_without}
-use Rattle.pgadding.specs.Addition.{OwnChange, Inserted, Updated, Deleted, Emptied, Addition, made_of, owned}
+use Rattle.pgadding.specs.Addition.{OwnChange, Inserted, Updated, Deleted, Emptied, Addition}
+use Rattle.pgadding.specs.Addition.{made_of, owned}
 use Rattle.pgadding.specs.Addition.{rows_work, rows_transaction}
 use Rattle.pgadding.specs.Around.{IsAround, with_rows}
 use Rattle.pgadding.specs.Rows.{OtherRowsAreTheServers, AreRowsOf, RowsAreTheServers}

@@ -1,7 +1,7 @@
 -- What is kept of a session are the changes of the transactions that the slot doesn't see.
 use Rattle.std.proofs.Common.{◌≡◌, ◌≢◌, ◌<◌, ◌≤◌, ◌++◌, ℕ, List, [], ◌∷◌, true, false, cond, nat_le}
-use Rattle.std.proofs.Common.{eqb, ◌||◌, map, filter, flat_map, Option, Some, None, Ok, refl, sym, ap}
-use Rattle.std.proofs.Common.{ap₂, subst, ◌∙◌, arith, append_assoc}
+use Rattle.std.proofs.Common.{eqb, ◌||◌, map, filter, flat_map, Option, Some, None, Ok, refl, sym}
+use Rattle.std.proofs.Common.{ap, ap₂, subst, ◌∙◌, arith, append_assoc}
 use Rattle.std.proofs.lemmas.Bool.Decides.{nat_tests}
 use Rattle.std.proofs.lemmas.Grind.{flat_map-append}
 use Rattle.std.proofs.lemmas.List.Elements.{filter-append}
@@ -21,7 +21,8 @@ use Rattle.pgsub_core.specs.Server.History.{Transaction, ChangesRows, all_change
 use Rattle.pgsub_core.specs.Server.Described.{last_of, relation_of, relations_after, described}
 use Rattle.pgsub_core.specs.Server.Described.{definitions_of, described_from, found_behind}
 use Rattle.pgsub_core.specs.Server.Stream.{Sent, Data, Keepalive, Committed, WholeCommit}
-use Rattle.pgsub_core.specs.Server.Stream.{messages_in, commits_and_keepalives, pair_items, pair_commit}
+use Rattle.pgsub_core.specs.Server.Stream.{messages_in, commits_and_keepalives, pair_items}
+use Rattle.pgsub_core.specs.Server.Stream.{pair_commit}
 use Rattle.pgsub_core.specs.Server.Delivers.{CommitsFollow, ChangeNothing}
 use Rattle.pgsub_core.proofs.Changes.{changes-append}
 use Rattle.pgadding.specs.Addition.{OwnChange, Inserted, Updated, Deleted, Emptied, owned}
@@ -363,7 +364,8 @@ kept_follow read point def above order unseen_above (Data start end clock (messa
     subst (λ is. CommitsFollow (relations_after earlier is) later ms) came.6.4 came.8 in
     ap (λ os. surviving_changes (owned def (kept_open read oid (Some l) before ++ os))) (sym (no_item read l kept))
     ∙ elim (nat_le read l) as (λ b. nat_le read l ≡ b
-    → surviving_changes (owned def (cond (nat_le read l) (flat_map (owns_of oid) items) [] ++ kept)) ≡ own_changes oid (all_changes between)) [
+    → surviving_changes (owned def (cond (nat_le read l) (flat_map (owns_of oid) items) [] ++ kept))
+    ≡ own_changes oid (all_changes between)) [
       | true ↦ λ e.
           let le : read ≤ l = is_there read l e in
           let it = unseen read below (between ++ above) out t later g.seen (omega arith) came.4 in
@@ -464,12 +466,12 @@ kept_follow read point def above order unseen_above (Data start end clock (messa
       under = g.under.1;
       follow = g.follow;
     })
-kept_follow read point def above order unseen_above (Data start end clock (message.Logical xid transactional lsn prefix content) ∷ sent) (Some l) before
-    earlier below between g =
+kept_follow read point def above order unseen_above
+    (Data start end clock (message.Logical xid transactional lsn prefix content) ∷ sent) (Some l) before earlier below between g =
     let kept = kept_in read def.oid (Some l) (before_rows point (Some l) sent) in
     ap (λ os. surviving_changes (owned def (kept_open read def.oid (Some l) before ++ os))) (sym (no_item read l kept))
-    ∙ kept_follow read point def above order unseen_above sent (Some l) (message.Logical xid transactional lsn prefix content ∷ before) earlier below
-    between (record {
+    ∙ kept_follow read point def above order unseen_above sent (Some l)
+    (message.Logical xid transactional lsn prefix content ∷ before) earlier below between (record {
       order = g.order.1;
       ends = g.ends;
       at = g.at;

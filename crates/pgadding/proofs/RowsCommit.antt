@@ -15,8 +15,8 @@ use Rattle.pgsub_core.specs.Server.Stream.{Sent, Data, CommitOrKeepalive, Commit
 use Rattle.pgsub_core.specs.Server.Stream.{commits_and_keepalives, pair_of, pair_items, block_of}
 use Rattle.pgsub_core.specs.Server.Stream.{pair_commit}
 use Rattle.pgadding.specs.Addition.{Addition, rows_xid, rows_lsn, rows_end, rows_items, rows_sent}
-use Rattle.pgadding.specs.Addition.{OwnChange, Inserted, Updated, Deleted, Emptied, own_item, items_of}
-use Rattle.pgadding.specs.Addition.{made_of, owned, rows_work, sent_at, items_at, emptied}
+use Rattle.pgadding.specs.Addition.{OwnChange, Inserted, Updated, Deleted, Emptied, own_item}
+use Rattle.pgadding.specs.Addition.{items_of, made_of, owned, rows_work, sent_at, items_at, emptied}
 
 -- the messages before, with these items behind them
 abbrev pub pushed : Option ℕ → List Item → List Message → List Message

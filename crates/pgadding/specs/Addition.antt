@@ -27,9 +27,9 @@ own_item oid (Deleted kind row) = Delete oid kind row
 own_item oid (Emptied options) = Truncate options (oid ∷ [])
 
 -- A table's rows as the snapshot of a slot shows them, and its changes since: `later` has those of
--- the commits that the snapshot doesn't see and that end before `point`, the end of a record that is
--- no commit. There may be none, where that is the slot's consistent point. `told` is the place that
--- the rows' messages tell, `clock` when the transaction is made, in microseconds since 2000.
+-- the commits that the snapshot doesn't see and that end before `point`, where no commit ends. It
+-- may have none, as where that is the slot's consistent point. `told` is the place that the rows'
+-- messages tell, `clock` when the transaction is made, in microseconds since 2000.
 pub record Addition : Type 0 where
   pub point : ℕ
   pub told : ℕ
