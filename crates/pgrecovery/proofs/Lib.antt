@@ -15,3 +15,9 @@ mod LifeFed
 mod LifeRows
 mod LifeTold
 mod LifeAlone
+mod LiveFrames
+mod LiveTakes
+mod LiveParts
+mod LiveSessions
+mod LiveFed
+mod LiveRows

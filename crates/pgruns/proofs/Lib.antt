@@ -1,9 +1,3 @@
 mod NewPage
-mod LiveFrames
-mod LiveTakes
-mod LiveParts
-mod LiveSessions
-mod LiveFed
-mod LiveRows
 mod Unfed
 mod After

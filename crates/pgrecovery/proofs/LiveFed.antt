@@ -23,14 +23,14 @@ use Rattle.pgsub_core.specs.Subscriber.Subscribed.{Subscribed}
 use Rattle.pgsub_core.proofs.Samples.{change_t, delete_t, empty_one, first_rows, first_tables}
 use Rattle.pgsub_core.proofs.Samples.{insert_t, lookups, place, put_t, row_of, t, text, update_t}
 use Rattle.pgfollow.specs.Live.{settled}
-use Rattle.pgruns.proofs.LiveFrames.{begin_10, begin_11, commit_10, commit_11, delete, framed}
-use Rattle.pgruns.proofs.LiveFrames.{insert, keepalive, relation, short, update, begin_10_read}
-use Rattle.pgruns.proofs.LiveFrames.{begin_11_read, commit_10_read, commit_11_read, delete_read}
-use Rattle.pgruns.proofs.LiveFrames.{insert_read, keepalive_read, relation_read, update_read}
-use Rattle.pgruns.proofs.LiveTakes.{takes_none, takes_more, takes_begin, takes_item, takes_commit}
-use Rattle.pgruns.proofs.LiveTakes.{takes_repeat, takes_keepalive, told}
-use Rattle.pgruns.proofs.LiveParts.{FeedsPart}
-use Rattle.pgruns.proofs.LiveSessions.{history, session_1, session_2}
+use Rattle.pgrecovery.proofs.LiveFrames.{begin_10, begin_11, commit_10, commit_11, delete, framed}
+use Rattle.pgrecovery.proofs.LiveFrames.{insert, keepalive, relation, short, update, begin_10_read}
+use Rattle.pgrecovery.proofs.LiveFrames.{begin_11_read, commit_10_read, commit_11_read, delete_read}
+use Rattle.pgrecovery.proofs.LiveFrames.{insert_read, keepalive_read, relation_read, update_read}
+use Rattle.pgrecovery.proofs.LiveTakes.{takes_none, takes_more, takes_begin, takes_item}
+use Rattle.pgrecovery.proofs.LiveTakes.{takes_commit, takes_repeat, takes_keepalive, told}
+use Rattle.pgrecovery.proofs.LiveParts.{FeedsPart}
+use Rattle.pgrecovery.proofs.LiveSessions.{history, session_1, session_2}
 
 -- ---- the parts' bytes
 

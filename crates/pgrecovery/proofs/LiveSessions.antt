@@ -28,9 +28,9 @@ use Rattle.pgsub_core.specs.Server.Work.{Changed, Nothing}
 use Rattle.pgsub_core.specs.Subscriber.Safe.{IsSafe}
 use Rattle.pgsub_core.proofs.Samples.{alone, begin, commit, delete_t, empty_one, insert_t, place, t}
 use Rattle.pgsub_core.proofs.Samples.{text, update_t}
-use Rattle.pgruns.proofs.LiveTakes.{data_at}
-use Rattle.pgruns.proofs.LiveFrames.{begin_10, begin_11, commit_10, commit_11, copy_done, delete}
-use Rattle.pgruns.proofs.LiveFrames.{framed, insert, keepalive, relation, short, update}
+use Rattle.pgrecovery.proofs.LiveTakes.{data_at}
+use Rattle.pgrecovery.proofs.LiveFrames.{begin_10, begin_11, commit_10, commit_11, copy_done}
+use Rattle.pgrecovery.proofs.LiveFrames.{delete, framed, insert, keepalive, relation, short, update}
 
 -- ---- the history
 

@@ -26,16 +26,17 @@ use Rattle.pgfollow.specs.Live.{AreSteps, IsGreeted, LiveEnds, LiveSteps, Step, 
 use Rattle.pgfollow.specs.Live.{told_in}
 use Rattle.pgfollow.specs.Told.{AreRising, AreToldSafely, IsToldSafely, Rises, first_status}
 use Rattle.pgfollow.specs.Told.{sessions_from}
-use Rattle.pgruns.proofs.LiveFrames.{short}
-use Rattle.pgruns.proofs.LiveTakes.{now}
-use Rattle.pgruns.proofs.LiveParts.{count, holds, is_step, One, over, Part, reopens, serves, stands}
-use Rattle.pgruns.proofs.LiveParts.{step_of, Store, only}
-use Rattle.pgruns.proofs.LiveFed.{bytes_1, bytes_2, bytes_3, bytes_4, bytes_5, bytes_6, bytes_7}
-use Rattle.pgruns.proofs.LiveFed.{fed_1, fed_2, fed_3, fed_4, fed_5, fed_6, fed_7, feeds_1, feeds_2}
-use Rattle.pgruns.proofs.LiveFed.{feeds_3, feeds_4, feeds_5, feeds_6, feeds_7, last_tables, opened}
-use Rattle.pgruns.proofs.LiveFed.{rows_10, rows_11, status, tally_10, tally_11}
-use Rattle.pgruns.proofs.LiveSessions.{complete_1, complete_2, history, is_sent, safe_0, session_1}
-use Rattle.pgruns.proofs.LiveSessions.{session_2}
+use Rattle.pgrecovery.proofs.LiveFrames.{short}
+use Rattle.pgrecovery.proofs.LiveTakes.{now}
+use Rattle.pgrecovery.proofs.LiveParts.{count, holds, is_step, One, over, Part, reopens, serves}
+use Rattle.pgrecovery.proofs.LiveParts.{stands, step_of, Store, only}
+use Rattle.pgrecovery.proofs.LiveFed.{bytes_1, bytes_2, bytes_3, bytes_4, bytes_5, bytes_6, bytes_7}
+use Rattle.pgrecovery.proofs.LiveFed.{fed_1, fed_2, fed_3, fed_4, fed_5, fed_6, fed_7, feeds_1}
+use Rattle.pgrecovery.proofs.LiveFed.{feeds_2, feeds_3, feeds_4, feeds_5, feeds_6, feeds_7}
+use Rattle.pgrecovery.proofs.LiveFed.{last_tables, opened, rows_10, rows_11, status, tally_10}
+use Rattle.pgrecovery.proofs.LiveFed.{tally_11}
+use Rattle.pgrecovery.proofs.LiveSessions.{complete_1, complete_2, history, is_sent, safe_0}
+use Rattle.pgrecovery.proofs.LiveSessions.{session_1, session_2}
 
 -- ---- the run
 

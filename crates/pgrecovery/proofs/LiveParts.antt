@@ -11,7 +11,7 @@ use Rattle.pgsub_core.specs.Subscriber.SubscriberValue.{SubscriberValue, seen}
 use Rattle.pgsub_core.specs.declared.fault.Fault.TheVariants as fault
 use Rattle.pgsub_core.proofs.OneOutcome.{piece_one}
 use Rattle.pgfollow.specs.Live.{IsFedPart, IsStep, Step, settled}
-use Rattle.pgruns.proofs.LiveTakes.{Take, now}
+use Rattle.pgrecovery.proofs.LiveTakes.{Take, now}
 
 -- ---- the store: its tables, its position, and its tally
 

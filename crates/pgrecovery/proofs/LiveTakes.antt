@@ -29,7 +29,7 @@ use Rattle.pgsub_core.specs.Machine.Counted.{counted_behind, decoded_counted, pa
 use Rattle.pgsub_core.specs.Subscriber.Subscribed.{Subscribed, with_status}
 use Rattle.pgsub_core.specs.Machine.Taking as taking
 use Rattle.pgsub_core.proofs.Samples.{alone, begin, commit, spools}
-use Rattle.pgruns.proofs.LiveFrames.{Reads}
+use Rattle.pgrecovery.proofs.LiveFrames.{Reads}
 
 -- the time at which all parts are fed
 abbrev pub now : ℤ
