@@ -3,18 +3,15 @@
 //! The first word is the program's name, as `std::env::args` gives it.
 //!
 //! ```text
-//! let words: Vec<String> = std::env::args(&rt)?.collect(alloc)?;
+//! // None where they aren't UTF-8
+//! let words = words(&rt)?;
 //! match command_of(alloc, words.as_slice()) {
 //!     Ok(Task::Apply { version, limits, raw, store: None, file, .. }) =>
 //!         apply(version, limits, raw, file.as_str()),
 //!     Ok(_) => ..,
 //!     // help and `--version` are such errors too: they go to standard output, with status 0
-//!     Err(CommandFault::Usage(error)) if error.use_stderr() => {
-//!         eprint!(rt; "{error}")?;
-//!         return Ok(ExitCode::from(error.exit_code() as u8));
-//!     }
-//!     Err(CommandFault::Usage(help)) => print!(rt; "{help}")?,
-//!     Err(CommandFault::Memory) => eprintln!(rt; "pgsub: memory")?,
+//!     Err(CommandFault::Usage(error)) => tell_usage(&rt, &error, commit, kit),
+//!     Err(CommandFault::Memory) => tell_memory(&rt, words.as_slice()),
 //! }
 //! ```
 #![tactic(auto)]
@@ -28,6 +25,7 @@ mod feed;
 mod limits;
 mod spool;
 mod task;
+mod usage;
 mod watching;
 
 pub use commands::VERSION;
@@ -40,6 +38,7 @@ pub use spool::SpoolOptions;
 use std::alloc::Global;
 use task::{missing_word, task_of, unknown_watch};
 pub use task::{DEFAULT_CACHE, Task};
+pub use usage::{FOLLOW_MEMORY, MEMORY, USAGE, tell_memory, tell_usage, words};
 pub use watching::Watching;
 
 /// Returns the task that the words ask for.

@@ -1,7 +1,7 @@
 //! The tasks of the program, and how the parsed words ask for them.
 
 ghost use Rattle.std.specs.Prelude.{◌≡◌, ◌↔◌, IfOk, Option, Some, is_some, true, codes};
-ghost use Rattle.std.specs.Prelude.{string_bytes};
+ghost use Rattle.std.specs.Prelude.{option_map, string_bytes};
 ghost use Rattle.clap.specs.Words.{first_of, found_of, one_of, rows_of};
 ghost use Rattle.pgcommand.specs.Asked.{AsksFeed, AsksSpool, IsAsked, IsCache, IsCommandName};
 ghost use Rattle.pgcommand.specs.Asked.{IsFeed, IsFlag, IsLimits, IsSpool, IsVersion, NamesFile};
@@ -9,6 +9,7 @@ ghost use Rattle.pgcommand.specs.Asked.{ReadsAsOne, ReadsIfGiven, ReadsOr, Reads
 ghost use Rattle.pgcommand.specs.Asked.{default_buffered, is_given, lacks_of_feed, lacks_of_spool};
 ghost use Rattle.pgcommand.specs.Asked.{lacks_word, misnames_watch, tells_of_feed, text_in};
 ghost use Rattle.pgcommand.specs.Asked.{watching_in};
+ghost use Rattle.pgcommand.specs.Parts.{cache_in, feed_in, limits_in, loads, trusts_store};
 
 use crate::feed::FeedOptions;
 use crate::limits::Limits;
@@ -88,6 +89,61 @@ pub enum Task {
         version: Version,
         file: String,
     },
+}
+
+impl Task {
+    /// The limits of what it applies.
+    pub fn limits(&self) -> Limits
+        ensures { result ≡ limits_in self.now }
+    {
+        match self {
+            Task::Apply { limits, .. } | Task::Follow { limits, .. } => *limits,
+            _ => Limits::DEFAULT,
+        }
+    }
+
+    /// How many pages of its store's file it keeps in memory.
+    pub fn cache(&self) -> usize
+        ensures { result ≡ cache_in self.now }
+    {
+        let pages = match self {
+            Task::Apply { cache, .. } | Task::Dump { cache, .. } | Task::Follow { cache, .. } => {
+                *cache
+            }
+            _ => DEFAULT_CACHE,
+        };
+        pages as usize
+    }
+
+    /// The feed that it keeps beside its store, if it keeps one.
+    pub fn feed(&self) -> Option<&FeedOptions>
+        ensures { option_map (λ feed. feed.now) result ≡ feed_in self.now }
+    {
+        match self {
+            Task::Apply { feed, .. } | Task::Follow { feed, .. } => feed.as_ref(),
+            _ => None,
+        }
+    }
+
+    /// Whether a load comes before the first session that it follows.
+    pub fn loads(&self) -> bool
+        ensures { result ≡ loads self.now }
+    {
+        match self {
+            Task::Follow { load, .. } => *load,
+            _ => false,
+        }
+    }
+
+    /// Whether it takes its store's rows for those that an earlier run left.
+    pub fn trusts_store(&self) -> bool
+        ensures { result ≡ trusts_store self.now }
+    {
+        match self {
+            Task::Follow { trust, .. } => *trust,
+            _ => false,
+        }
+    }
 }
 
 /// Whether version 1 is asked for.

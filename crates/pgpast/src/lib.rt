@@ -20,6 +20,7 @@
 mod comparing;
 mod fault;
 mod file;
+mod input;
 mod laws;
 mod lines;
 mod loading;
@@ -30,6 +31,7 @@ mod record;
 pub use comparing::{Comparing, RepeatListener};
 pub use fault::NotesFault;
 pub use file::{NotesFile, PlainFile};
+pub use input::{ComparedInput, compared_input, tell_counts, tell_notes};
 pub use laws::records_are_told_apart;
 pub use lines::{Counts, RepeatLines};
 pub use notes::{Found, Notes, Opened};

@@ -1,3 +1,2 @@
-mod NewPage
 mod Unfed
-mod After
+mod Unloaded

@@ -9,8 +9,7 @@ use Rattle.pgfeed.specs.declared.fault.FeedFault.{FeedFault}
 use Rattle.pgfeed.specs.declared.fault.FeedFault.TheVariants as feed
 use Rattle.pgfeed.specs.declared.feed.Feed.{Feed}
 use Rattle.pgfeed.specs.Beside.{KeepsRest, LastsFrom, is_stuck_feed, told_from}
-use Rattle.pgfeed.specs.Feeds.{OpensIn, ReopensAt}
-use Rattle.pgfeed.specs.Naming.{IsOf}
+use Rattle.pgfeed.specs.Feeds.{ReopensAt}
 use Rattle.pgfollow.specs.declared.fault.FollowFault.{FollowFault}
 use Rattle.pgledger.specs.declared.recorded.Recorded.{Recorded}
 use Rattle.pgstore.specs.StoreValue.{StoreValue, HasTables, IsHonest, Serves}
@@ -18,7 +17,6 @@ use Rattle.pgstore.specs.Reopened.{Reopens}
 use Rattle.pgsub_cli.specs.declared.fault.Ending.{Ending}
 use Rattle.pgsub_cli.specs.declared.fault.RunFault.{RunFault}
 use Rattle.pgsub_cli.specs.declared.storing.Incoming.{Incoming}
-use Rattle.pgruns.specs.declared.fed.FeedPlan.{FeedPlan}
 use Rattle.pgspooled.specs.declared.honesty.Honesty.{Honesty}
 use Rattle.pgruns.specs.Filed.{FollowsTold, IsKept, position_of}
 use Rattle.pgruns.specs.Recorded.{Applies, FollowsRecorded, HoldsRecorded, ReopensRecorded}
@@ -65,13 +63,6 @@ IsRun (Some asked) (Some feed) = ⊤
 
 module _ {F D : Type 0} (seen : D → List ℕ) (may_leave : D → List ℕ → Type 0) (is_clean : D → Bool) (is_true : F → Type 0)
     (places : F → List ℕ) (has : F → ℕ → List ℕ → Type 0) where
-  -- It was opened at this LSN as it was planned: in the folder, as a feed of the system, database
-  -- and slot, whose segments end, and whose messages are told, by the limits.
-  pub record IsOpenedAt (plan : FeedPlan F D) (p : ℕ) (l : Feed F D) : Type 0 where
-    pub opened : OpensIn seen may_leave is_clean is_true places has plan.folder p l
-    pub told : IsOf l.names plan.origin.system.now plan.origin.database.now plan.origin.slot.now
-    pub limited : l.limits ≡ plan.limits
-
   module _ {P S : Type 0} (supposed : Type 0) (opens : P → ℕ → Feed F D → Type 0) (g : Ghosts S) where
     -- A server was followed over the opened store: where no feed was asked for, over that alone,
     -- and else with the feed that was opened beside it, as `opens` says. Then the same is said of

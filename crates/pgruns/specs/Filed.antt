@@ -1,7 +1,7 @@
 -- Part of the statement. PostgreSQL documentation, Logical Replication, Subscription; SQLite
 -- documentation, Write-Ahead Logging: a run over a store in two files. The store is opened on what
 -- the files held, and closed at the end.
-use Rattle.std.specs.Prelude.{◌≡◌, ◌==◌, ℕ, List, [], Option, None, Some, Result, Ok, Err}
+use Rattle.std.specs.Prelude.{◌≡◌, ◌==◌, ◌⊎◌, ℕ, List, [], Option, None, Some, Result, Ok, Err}
 use Rattle.std.specs.Prelude.{if◌then◌else◌}
 use Rattle.sqlite_disk.specs.declared.Disk as disk
 use Rattle.sqlite_disk.specs.declared.Files.{Files}
@@ -21,6 +21,9 @@ use Rattle.pgmemory.specs.Stopped.{Leaves}
 use Rattle.pgrows.specs.Rows.{state}
 use Rattle.pgstore.specs.StoreValue.{StoreValue, HasTables, IsHonest, Serves}
 use Rattle.pgstore.specs.Reopened.{HoldsContent, IsCopiedTo, Reopens}
+use Rattle.pgload.specs.declared.fault.InputFault.{InputFault}
+use Rattle.pgloaded.specs.Loaded.{input_line, status_of_load, stream_fault}
+use Rattle.pgsub_core.specs.declared.fault.Fault.{Fault}
 use Rattle.pgsub_core.specs.declared.fault.Fault.TheVariants as fault
 use Rattle.pgfollow.specs.declared.fault.FollowFault.{FollowFault}
 use Rattle.pgsub_cli.specs.declared.fault.Ending.{Ending}
@@ -29,8 +32,29 @@ use Rattle.pgsub_cli.specs.declared.fault.RunFault.{RunFault}
 use Rattle.pgsub_cli.specs.declared.fault.RunFault.TheVariants as run
 use Rattle.pgsub_cli.specs.declared.reported.Reported.{Reported}
 use Rattle.pgspooled.specs.declared.honesty.Honesty.{Honesty}
+use Rattle.pgsub_cli.specs.Caused.{TellsCaused}
+use Rattle.pgsub_cli.specs.FaultTexts.{memory_line}
 use Rattle.pgsub_cli.specs.FollowedLive.{FollowsBuffered, IsReadBack}
+use Rattle.pgsub_cli.specs.FollowStatus.{status_of_fault}
 use Rattle.pgsub_cli.specs.Runs.{Tells}
+
+-- ---- how a run ends whose load isn't taken
+
+abbrev pub status_by : Option Fault → InputFault → ℕ
+status_by (Some of) f = status_of_fault of
+status_by None f = status_of_load f
+
+abbrev pub status_of_unloaded : InputFault → ℕ
+status_of_unloaded f = status_by (stream_fault f) f
+
+module _ {E : Type 0} (takes : E → List ℕ → E → Type 0) (failed : E → Type 0) where
+  abbrev pub TellsBy : Option Fault → InputFault → E → E → Type 0
+  TellsBy (Some of) f old new = TellsCaused takes failed (Err (run.Stream of)) old new
+  TellsBy None f old new = takes old (input_line f) new ⊎ (takes old memory_line new ⊎ failed old)
+
+  -- standard error gets the line, and before it the cause of the store's error, where that is known
+  abbrev pub TellsUnloaded : InputFault → E → E → Type 0
+  TellsUnloaded f old new = TellsBy (stream_fault f) f old new
 
 -- ---- how a run ends whose store is closed
 

@@ -1,11 +1,7 @@
 -- SQLite documentation, Database File Format: the file of a new store, before its tables are made.
-use Rattle.std.specs.Prelude.{ℕ, List, []}
-use Rattle.sqlite_pool.specs.Header.{first_page}
+use Rattle.std.specs.Prelude.{[]}
+use Rattle.pgsystem.specs.NewFile.{new_page}
 use Rattle.pgstore.specs.Reopened.{IsEmptyContent}
-
--- the one page of an empty database with pages of 1,024 bytes
-abbrev pub new_page : List ℕ
-new_page = first_page 1024
 
 -- files that hold this page, and no log, hold an empty database
 abbrev pub NewFilesAreEmpty : Type 0

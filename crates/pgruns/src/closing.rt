@@ -10,13 +10,10 @@ use pgapply::StoreFault;
 use pgstore::Store;
 use pgsub_cli::files::Output;
 use pgsub_cli::storing::tell_unopened;
-use sqlite::{FileStore, Files};
+use pgsystem::Closing;
+use sqlite::FileStore;
 use sqlite_disk::Disk;
 use std::alloc::Global;
-
-/// The files of a store as it is closed, or the store of the trees whose log couldn't be copied
-/// into its file.
-pub type Closing<D> = Result<Files<D>, (StoreFault, FileStore<D>)>;
 
 /// Closes a store, whose log goes into its own file. Where that fails, the next run reads the log,
 /// and nothing is lost.

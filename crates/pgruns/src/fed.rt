@@ -3,8 +3,7 @@
 //! They are over a store of any kind, since the proof that one over given disks is a store gets too
 //! large.
 
-ghost use Rattle.std.specs.Prelude.{◌≡◌, ◌↔◌, [], false, true, Option, Result, Some, IfOk};
-ghost use Rattle.std.specs.Prelude.{⊤, IfSome};
+ghost use Rattle.std.specs.Prelude.{◌≡◌, ◌↔◌, [], false, true, Option, Result, Some, IfSome};
 ghost use Rattle.pgfeed.specs.declared.fault.FeedFault.{FeedFault};
 ghost use Rattle.pgfollow.specs.declared.fault.FollowFault.{FollowFault};
 ghost use Rattle.pgfollow.specs.declared.fault.FollowFault.TheVariants as fault;
@@ -16,17 +15,15 @@ ghost use Rattle.pgsub_cli.specs.Caused.{TellsCaused};
 ghost use Rattle.pgsub_cli.specs.FollowedLive.{ending_of, may_fail_over};
 ghost use Rattle.pgsub_cli.specs.FollowStatus.{status_of_follow};
 ghost use Rattle.pgsub_cli.specs.Runs.{Tells, status_of};
-ghost use Rattle.pgruns.specs.Fed.{AppliesBeside, FollowsBeside, IsOpenedAt, IsRun, IsUnfed};
-ghost use Rattle.pgruns.specs.Fed.{TellsUnfed, status_of_unapplied, status_of_unfed};
+ghost use Rattle.pgruns.specs.Fed.{AppliesBeside, FollowsBeside, IsRun, IsUnfed, TellsUnfed};
+ghost use Rattle.pgruns.specs.Fed.{status_of_unapplied, status_of_unfed};
 ghost use Rattle.pgruns.specs.Filed.{IsKept};
 
-use crate::load_plan::LoadPlan;
-use crate::opening::FeedOpening;
 use crate::telling::{tell_unapplied, tell_unfed};
-use pgfeed::{Feed, FeedFault, Folder, Origin, SegmentLimits};
+use pgfeed::{Feed, Folder};
 use pgfollow::Clock;
 use pgledger::Supposing;
-use pglsn::Lsn;
+use pgloaded::LoadPlan;
 use pgorder::Version;
 use pgstore::Store;
 use pgsub_cli::files::{Input, Output};
@@ -35,23 +32,13 @@ use pgsub_cli::reported::Listener;
 use pgsub_cli::reporting::Reporter;
 use pgsub_cli::storing::Incoming;
 use pgsub_cli::{Limits, LiveIo, SpoolFile, run_opened};
+use pgsystem::FeedOpening;
 use sqlite::Alter;
 use sqlite_disk::Disk;
 use std::alloc::Global;
 use std::cell::RefCell;
 use std::io::{Read, Write};
 use std::time::Clock as Ticks;
-
-/// A feed that is to be opened beside a store.
-#[derive(Drop)]
-pub struct FeedPlan<'a, D: Folder + Drop> {
-    /// The folder of its segments.
-    pub folder: D,
-    /// What it is of.
-    pub origin: Origin<'a>,
-    /// When its segments end, and which messages it tells.
-    pub limits: SegmentLimits,
-}
 
 /// How a server is followed.
 #[derive(Drop)]
@@ -81,20 +68,6 @@ pub struct ApplyPlan<'a, B: Drop, R: Drop, K: Ticks + Drop, P: Output + Drop> {
     pub input: Option<(Version, Incoming<R>)>,
     /// What is told how far it is, if anything.
     pub reporter: Option<&'a RefCell<Reporter<K, P>>>,
-}
-
-impl<D: Folder + Drop> FeedOpening<D> for FeedPlan<'_, D> {
-    ghost fails = { λ _ _. ⊤ };
-
-    ghost opens = { λ plan p feed. IsOpenedAt D.File.seen D.File.may_leave D.File.is_clean D.is_true
-        D.places D.has plan p feed };
-
-    fn open_feed(self, alloc: Global, position: Lsn) -> Result<Feed<D>, FeedFault> {
-        match Feed::open(alloc, self.folder, &self.origin, self.limits, position) {
-            Ok(feed) => Ok(feed),
-            Err((fault, _folder)) => Err(fault),
-        }
-    }
 }
 
 /// Follows a server over an opened store of any kind, and keeps the feed that is asked for beside

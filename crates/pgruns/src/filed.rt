@@ -22,42 +22,38 @@ ghost use Rattle.pgsub_cli.specs.declared.fault.RunFault.{RunFault};
 ghost use Rattle.pgsub_cli.specs.declared.fault.RunFault.TheVariants.{Stream};
 ghost use Rattle.pgsub_cli.specs.Caused.{TellsCaused};
 ghost use Rattle.pgsub_cli.specs.Dumped.{Dumps};
+ghost use Rattle.pgloaded.specs.Loaded.{AfterLoad, KeepsLink, Unloads};
 ghost use Rattle.pgruns.specs.Filed.{IsKept, LeavesNothingNew, RunsInFiles, TellsBoth};
-ghost use Rattle.pgruns.specs.Filed.{fault_of_closing, position_of, status_closed};
-ghost use Rattle.pgruns.specs.Filed.{status_of_unclosed};
+ghost use Rattle.pgruns.specs.Filed.{TellsUnloaded, fault_of_closing, position_of, status_closed};
+ghost use Rattle.pgruns.specs.Filed.{status_of_unclosed, status_of_unloaded};
 ghost use Rattle.pgruns.specs.Fed.{AppliesBeside, FollowsBeside, IsRun, IsUnfed, TellsUnfed};
 ghost use Rattle.pgruns.specs.Fed.{status_of_unapplied, status_of_unfed};
-ghost use Rattle.pgruns.specs.Loaded.{AfterLoad, KeepsLink, TellsUnloaded, Unloads};
-ghost use Rattle.pgruns.specs.Loaded.{status_of_unloaded};
 ghost use Rattle.pgsub_cli.specs.FollowedLive.{ending_of, may_fail_over};
 ghost use Rattle.pgsub_cli.specs.FollowStatus.{status_of_follow, status_of_unfollowed};
 ghost use Rattle.pgsub_cli.specs.Runs.{Tells, status_of};
 ghost use Rattle.pgsub_cli.specs.Storing.{status_of_unopened};
 
-use crate::closing::{Closing, close_told, followed_status, run_status};
+use crate::closing::{close_told, followed_status, run_status};
 use crate::fed::{ApplyPlan, FollowPlan, apply_over};
 use crate::loaded::follow_loaded;
-use crate::opening::{FeedOpening, Opening};
-use crate::session_reader::SessionReader;
+use crate::opening::Opening;
 use pgfeed::{Feed, Folder};
 use pgfollow::Clock;
 use pgledger::Supposing;
 use pgload::InputFault;
+use pgloaded::SessionReader;
 use pgstore::Store;
 use pgsub_cli::files::{Input, Output};
 use pgsub_cli::following::tell_unfollowed;
 use pgsub_cli::reported::Listener;
 use pgsub_cli::storing::tell_unopened;
 use pgsub_cli::{LiveIo, run_dump};
-use sqlite::{Alter, Connection, FileFrom, FileStore, Start};
+use pgsystem::{FeedOpening, Filed};
+use sqlite::{Alter, FileFrom, Start};
 use sqlite_disk::Disk;
 use std::alloc::Global;
 use std::io::Write;
 use std::time::Clock as Ticks;
-
-/// What a run leaves of the files at a path: those of its store. Where no store was opened, the
-/// connection to files that hold none, or None where the files couldn't be opened.
-pub type Filed<D> = Result<Closing<D>, Option<Connection<FileStore<D>>>>;
 
 /// Prints what an opened store of any kind holds.
 fn dump_store<S: Alter + Drop, W: Output + Drop, E: Output>(

@@ -9,23 +9,13 @@
 
 mod closing;
 mod fed;
-mod file_folder;
 mod filed;
 mod laws;
-mod load_plan;
 mod loaded;
-mod new_file;
 mod opening;
-mod session_reader;
-mod spooling;
 mod telling;
 
-pub use closing::Closing;
-pub use fed::{ApplyPlan, FeedPlan, FollowPlan};
-pub use file_folder::FileFolder;
-pub use filed::{Filed, apply, dump, follow};
+pub use fed::{ApplyPlan, FollowPlan};
+pub use filed::{apply, dump, follow};
 pub use laws::new_files_are_empty;
-pub use load_plan::LoadPlan;
-pub use opening::{AsLeft, FeedOpening, LeftUnopened, Opening, StoreFile, TrustedFile};
-pub use session_reader::SessionReader;
-pub use spooling::{make_spool, tell_unspooled};
+pub use opening::{AsLeft, LeftUnopened, Opening, StoreFile, TrustedFile};

@@ -14,76 +14,26 @@ ghost use Rattle.pgsub_cli.specs.Caused.{TellsCaused};
 ghost use Rattle.pgsub_cli.specs.FollowedLive.{ending_of, may_fail_over};
 ghost use Rattle.pgsub_cli.specs.FollowStatus.{status_of_follow};
 ghost use Rattle.pgruns.specs.Fed.{FollowsBeside, IsRun, IsUnfed, TellsUnfed, status_of_unfed};
-ghost use Rattle.pgruns.specs.Filed.{IsKept, position_of};
-ghost use Rattle.pgruns.specs.Loaded.{AfterLoad, IsBegun, KeepsLink, KeepsReader, TellsUnloaded};
-ghost use Rattle.pgruns.specs.Loaded.{Unloads, status_of_unloaded};
+ghost use Rattle.pgruns.specs.Filed.{IsKept, TellsUnloaded, position_of, status_of_unloaded};
+ghost use Rattle.pgloaded.specs.Loaded.{AfterLoad, KeepsLink, Unloads};
 
 use crate::fed::{FollowPlan, follow_over};
-use crate::load_plan::LoadPlan;
-use crate::opening::FeedOpening;
-use crate::session_reader::SessionReader;
 use crate::telling::tell_unloaded;
 use pgapply::ReplicaStore;
 use pgfeed::{Feed, Folder};
 use pgfollow::Clock;
 use pgledger::Supposing;
-use pgload::{InputFault, load_from};
+use pgload::InputFault;
+use pgloaded::{SessionReader, load_first};
 use pgstore::Store;
 use pgsub_cli::LiveIo;
 use pgsub_cli::files::Output;
 use pgsub_cli::reported::Listener;
+use pgsystem::FeedOpening;
 use sqlite::Alter;
 use sqlite_disk::Disk;
 use std::alloc::Global;
 use std::io::Write;
-
-// Loads into the store what comes first. Of what follows it nothing is read, and the reader is told
-// that sessions begin there.
-fn load_planned<C: ReplicaStore + Drop, R: SessionReader>(
-    alloc: Global,
-    store: C,
-    plan: LoadPlan,
-    reader: &mut R,
-) -> (Option<InputFault>, C)
-    ensures loaded { result.0 ≡ None → AfterLoad C.holds C.place C.reopens C.serves C.is_honest
-        (Some plan) (R.remaining reader.old) store (λ rest loaded. (rest ≡ R.remaining reader.new)
-        × (loaded ≡ result.1)) }
-    ensures stopped { IfSome result.0 (Unloads C.holds C.place C.reopens C.serves C.is_honest
-        (Some plan) (R.remaining reader.old) (R.remaining reader.new) store result.1) }
-    ensures begun { result.0 ≡ None → IsBegun R.begins (Some plan) reader.old reader.new }
-    ensures honest { C.is_honest result.1 → C.is_honest store }
-{
-    let (ended, store) = load_from(alloc, store, plan.limits, plan.max_frame, reader);
-    match ended {
-        Ok(_point) => {
-            reader.begin_sessions();
-            (None, store)
-        }
-        Err(fault) => (Some(fault), store),
-    }
-}
-
-// The same, where a load is planned.
-fn load_first<C: ReplicaStore + Drop, R: SessionReader>(
-    alloc: Global,
-    store: C,
-    plan: Option<LoadPlan>,
-    reader: &mut R,
-) -> (Option<InputFault>, C)
-    ensures loaded { result.0 ≡ None → AfterLoad C.holds C.place C.reopens C.serves C.is_honest
-        plan (R.remaining reader.old) store (λ rest loaded. (rest ≡ R.remaining reader.new)
-        × (loaded ≡ result.1)) }
-    ensures stopped { IfSome result.0 (Unloads C.holds C.place C.reopens C.serves C.is_honest plan
-        (R.remaining reader.old) (R.remaining reader.new) store result.1) }
-    ensures reader { KeepsReader plan reader.old reader.new }
-    ensures begun { result.0 ≡ None → IsBegun R.begins plan reader.old reader.new }
-    ensures honest { C.is_honest result.1 → C.is_honest store }
-{
-    match plan {
-        Some(plan) => load_planned(alloc, store, plan, reader),
-        None => (None, store),
-    }
-}
 
 /// Loads into an opened store of any kind what comes first, where a load is planned, and follows
 /// the server over it then, as `follow_over` does: the reader is told that sessions begin. Returns

@@ -1,6 +1,6 @@
-//! Opens the store of a run, and the feed beside it.
+//! Opens the store of a run.
 
-ghost use Rattle.std.specs.Prelude.{◌≡◌, ◌⊎◌, ℕ, IfOk, IfErr, IfSome};
+ghost use Rattle.std.specs.Prelude.{◌≡◌, ◌⊎◌, IfOk, IfErr, IfSome};
 ghost use Rattle.sqlite.specs.Files.{over_files};
 ghost use Rattle.sqlite.specs.Held as connection;
 ghost use Rattle.sqlite.specs.State.{HasCleanDisk};
@@ -8,17 +8,13 @@ ghost use Rattle.sqlite.specs.WalFiles.{image_at};
 ghost use Rattle.pgapply.specs.Stored.{IsOwnFault};
 ghost use Rattle.pgapply.specs.declared.fault.StoreFault.{StoreFault as Reason};
 ghost use Rattle.pgapply.specs.declared.fault.StoreFault.TheVariants.{NotAStore};
-ghost use Rattle.pgfeed.specs.declared.fault.FeedFault.{FeedFault as FeedReason};
-ghost use Rattle.pgfeed.specs.declared.feed.Feed.{Feed as FeedValue};
 ghost use Rattle.pgstore.specs.Reopened.{HoldsContent, IsAsLeft, StaysAsFound};
 ghost use Rattle.pgstore.specs.StoreValue.{begun_at, IsHonest, Serves};
 ghost use Rattle.pgruns.specs.Left.{nothing_is_left};
 
-use crate::new_file::{make_file, ready_file};
 use pgapply::StoreFault;
-use pgfeed::{Feed, FeedFault, Folder};
-use pglsn::Lsn;
 use pgstore::{Refusal, Store};
+use pgsystem::new_file::{make_file, ready_file};
 use sqlite::{Connection, FileFrom, FileStore, Start, Unknown};
 use std::alloc::Global;
 
@@ -47,22 +43,6 @@ pub trait Opening<F: Start> {
             HasCleanDisk (connection.state over_files conn) →
             StaysAsFound over_files (image_at F.Start) conn)) }
         ensures failed { IfErr result (λ e. fails self e.0) };
-}
-
-/// The feed of a run, which is still to be opened in a folder of this kind.
-///
-/// That it can't be opened for a reason is here too a fact that opening it alone gives.
-pub trait FeedOpening<D: Folder + Drop> {
-    /// That it can't be opened for this reason.
-    ghost fails: { Self → FeedReason → Type 0 };
-
-    /// That it was opened so, at this LSN.
-    ghost opens: { Self → ℕ → FeedValue D D.File → Type 0 };
-
-    /// Opens it at the position of the store beside it.
-    fn open_feed(self, alloc: Global, position: Lsn) -> Result<Feed<D>, FeedFault>
-        ensures opened { IfOk result (opens self position) }
-        ensures failed { IfErr result (fails self) };
 }
 
 /// The store in the file at a path, as `Store::open_or_return` opens it, with so many of its pages

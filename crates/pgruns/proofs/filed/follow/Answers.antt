@@ -4,7 +4,8 @@ use Rattle.pgapply.specs.declared.fault.StoreFault.{StoreFault}
 use Rattle.pgstore.specs.StoreValue.{Group}
 use Rattle.pgsub_cli.specs.Runs.{Tells}
 use Rattle.pgruns.specs.Filed.{ending_of_closing, status_closed, status_of_unclosed}
-use Rattle.pgruns.proofs.After.{if_some_as, unloaded_stays}
+use Rattle.pgloaded.proofs.After.{if_some_as}
+use Rattle.pgruns.proofs.Unloaded.{unloaded_stays}
 use Rattle.pgruns.proofs.Unfed.{unfed_stays}
 use Rattle.pgruns.proofs.filed.follow.Goals as goal
 

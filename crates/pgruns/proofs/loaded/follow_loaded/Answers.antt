@@ -1,6 +1,6 @@
 use Rattle.std.proofs.Common.{refl, sym, ap, subst, ◌∙◌}
-use Rattle.pgruns.specs.Loaded.{KeepsLink}
-use Rattle.pgruns.proofs.After.{after_as, followed_after, keeps_link}
+use Rattle.pgloaded.specs.Loaded.{KeepsLink}
+use Rattle.pgloaded.proofs.After.{after_as, followed_after, keeps_link}
 use Rattle.pgruns.proofs.loaded.follow_loaded.Goals as goal
 
 pub returns-in-Some-clause-unloaded : goal.returns-in-Some-clause-unloaded

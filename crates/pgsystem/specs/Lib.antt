@@ -1,0 +1,3 @@
+pub mod NewFile
+pub mod Opened
+pub mod Spooling
