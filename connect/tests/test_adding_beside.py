@@ -37,7 +37,12 @@ class Beside(Case):
 
     def at(self, moment: str, does: Callable[[], object]) -> None:
         """Does something at a moment of a table's reading."""
-        WorldSource.hook = staticmethod(lambda name: does() and None if name == moment else None)
+
+        def hook(name: str) -> None:
+            if name == moment:
+                does()
+
+        WorldSource.hook = staticmethod(hook)
 
     def running(self, moment: str, does: Callable[[Run], object], **options: object) -> Run:
         """Begins a run that does something at a moment of a table's reading."""
