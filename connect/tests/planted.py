@@ -843,9 +843,16 @@ BUGS = (
     Bug(
         "the rows of a slot stand behind what its snapshot doesn't see",
         "pgsub_connect/stream/place.py",
-        "self.point = self.least or lsn",
+        "self.point = self.least if self.least > self.reached else lsn",
         "self.point = lsn",
         ("test_place",),
+    ),
+    Bug(
+        "the rows of a slot stand before what its snapshot has",
+        "pgsub_connect/stream/place.py",
+        "if self.seeks and lsn >= self.least:",
+        "if self.seeks:",
+        ("test_place", "test_adding_beside"),
     ),
     Bug(
         "changes of another definition are passed on as if they had that of the rows",

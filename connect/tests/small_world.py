@@ -77,6 +77,8 @@ class World:
         self.made, self.taken, self.as_known = Subscriber(Store(":memory:")), 0, self.known
         # how long a record is that is written where nothing else is, and the server is asked
         self.record = 0
+        # whether sessions send nothing
+        self.stalls = False
         # (notified where sessions may have something to do)
         self.news = threading.Condition(self.lock)
 
@@ -161,7 +163,8 @@ class WorldServer(SmallServer):
             return ended.is_set() or self.ended
 
         def has_news() -> bool:
-            return is_over() or asked.is_set() or len(world.commits) > at
+            is_asked = asked.is_set() or len(world.commits) > at
+            return is_over() or is_asked and not world.stalls
 
         def send() -> None:
             nonlocal at

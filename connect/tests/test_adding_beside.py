@@ -82,6 +82,24 @@ class Beside(Case):
         self.at("none", self.change)
         self.goes_on()
 
+    def test_a_stream_behind_the_slot(self) -> None:
+        """What the snapshot has comes after the rows are read."""
+        self.want(T)
+
+        def stall() -> None:
+            self.world.stalls = True
+            self.change()
+
+        self.at("make_slot", stall)
+        run = Run(self)
+        self.assertTrue(run.until(lambda: run.follower.adder.phase == adder.SEEKING), self.said)
+        self.world.stalls = False
+        self.change()
+        self.assertTrue(run.until(lambda: not run.remembered.wanted), (self.said, run.raised))
+        run.end()
+        self.at("none", self.change)
+        self.goes_on()
+
     def test_truncations(self) -> None:
         """Of the table alone, and of several."""
         for oids in ((T,), (T, OTHER), (OTHER, THIRD, T)):
@@ -107,8 +125,7 @@ class Beside(Case):
         """The rows come once it has written anything; a transaction that comes first does, too."""
         self.world.record = 0
         self.want(T)
-        self.at("block", self.change)
-        run = Run(self)
+        run = self.running("block", lambda it: self.committed(it, self.change))
         waits = "waits for its place in the stream"
         self.assertTrue(
             run.until(lambda: waits in run.progress.findings.adding.values()),

@@ -107,6 +107,16 @@ class Places(unittest.TestCase):
             self.assertEqual(self.passed(*first, *behind), (first, behind))
             self.assertEqual(self.place.point, point)
 
+    def test_a_stream_behind_the_slot(self) -> None:
+        """What is below the slot's point is in the rows: they don't stand before that."""
+        for behind in (pair(0x500), [keepalive(0x500)], pair(0x510)):
+            self.begin()
+            self.passed(keepalive(0x3F0))
+            self.place.seek(0x500)
+            first = [*pair(0x400), keepalive(0x4F8)]
+            self.assertEqual(self.passed(*first, *behind), ([keepalive(0x3F0), *first], behind))
+            self.assertEqual(self.place.point, 0x500)
+
     def test_held_for_too_long(self) -> None:
         """The slot's point may be below what was passed on then."""
         self.place.begin(0x100)

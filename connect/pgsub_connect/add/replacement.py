@@ -4,9 +4,9 @@ which LSN the checkpoint has it, and the transaction that has the rows.
 The rows are read as of the consistent point R of a temporary slot, while the stream goes on. As the
 module `stream.hold` says, a commit whose final LSN is below R is seen by the slot's snapshot, and any
 other isn't. The table's changes don't pass on from before the slot is asked for: those that the
-snapshot doesn't see are kept aside. Once the rows are read, they stand at the next place P that the
-module `stream.place` finds, with the kept changes behind them. So the stream to the filter becomes
-this:
+snapshot doesn't see are kept aside. Once the rows are read, they stand at the next place P, at R or
+above, that the module `stream.place` finds, with the kept changes behind them. So the stream to the
+filter becomes this:
 
 | What comes | Final LSN below P | P or above |
 |---|---|---|

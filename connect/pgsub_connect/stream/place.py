@@ -1,11 +1,11 @@
 """Where in a stream a transaction may stand that is the connector's own, as that of the rows of a
-table that is added.
+table that is added, which a slot's snapshot has.
 
-Its LSNs are above all that was passed on, and none that comes behind is below them. Two such places
-can be told:
+Its LSNs are above all that was passed on, none that comes behind is below them, and they aren't
+below the slot's consistent point: what is below that is in the rows. Two such places can be told:
 
-- a slot's consistent point, where nothing was passed on since before the slot was asked for, as the
-  module `stream.hold` says;
+- the slot's consistent point, where nothing above it was passed on yet, as the module `stream.hold`
+  says;
 - else the LSN of the first of these that is above all that was passed on: a Begin with such a final
   LSN, or a keepalive between transactions with such an end. That is above the end of each commit and
   each keepalive. The record of a commit may begin where the one before it ends: there is no place
@@ -49,8 +49,8 @@ class Place:
         return kept
 
     def seek(self, point: int) -> None:
-        """It is looked for from now on: this point of a slot, where nothing was passed on since."""
-        self.seeks, self.least = True, point if self.holds else 0
+        """It is looked for from now on, from this point of a slot on."""
+        self.seeks, self.least = True, point
         self.holds = False
 
     def end(self) -> list[bytes]:
@@ -93,7 +93,7 @@ class Place:
     def is_at(self, lsn: int) -> bool:
         """Whether the place is before what has this LSN, which is above all that was passed on."""
         if self.seeks and lsn >= self.least:
-            self.point = self.least or lsn
+            self.point = self.least if self.least > self.reached else lsn
         return self.is_found()
 
 
