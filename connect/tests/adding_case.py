@@ -14,7 +14,7 @@ from pathlib import Path
 from typing import Any
 from unittest import mock
 
-from pgsub_connect.add import adder, requests
+from pgsub_connect.add import requests, retries
 from pgsub_connect.drift.findings import REPEAT, UNWATCHED
 from pgsub_connect.drift.remembered import Remembered
 from pgsub_connect.follow import drift_watch, filter_life, follower, schedule, session, upkeep
@@ -182,7 +182,7 @@ class Case(Quiet):
             (schedule, "ASK", 0.02),
             (statuses, "QUIET", 0.05),
             (schedule, "FIRST_DELAY", 0.01),
-            (adder, "FIRST_DELAY", 0.02),
+            (retries, "FIRST_DELAY", 0.02),
             (requests, "Source", WorldSource),
             (drift_watch.Watch, "compare", lambda *_: True),
             (drift_watch.Watch, "look_again", lambda *_: True),

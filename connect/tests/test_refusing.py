@@ -6,7 +6,7 @@ import re
 import unittest
 from pathlib import Path
 
-from pgsub_connect.add import adder, requests, turn
+from pgsub_connect.add import requests, retries, turn
 from pgsub_connect.drift.findings import About
 from pgsub_connect.drift.remembered import Remembered
 from pgsub_connect.errors import NoSlot, ServerError, Unconnected
@@ -69,7 +69,7 @@ class InTheWay(Case):
 
     def test_following_goes_on_without_a_slot(self) -> None:
         self.want(T)
-        self.patch(adder, "LONGEST_DELAY", 0.02)
+        self.patch(retries, "LONGEST_DELAY", 0.02)
         self.fails("make_slot", *[NoSlot("late")] * 10000)
         run = Run(self)
         self.assertTrue(
@@ -123,10 +123,10 @@ class InTheWay(Case):
         of it goes then."""
         for moment, errors in (
             ("see", [ServerError("permission denied", "42501")]),
-            ("COPY", [ServerError("bad bytes", "22021")] * adder.ATTEMPTS),
+            ("COPY", [ServerError("bad bytes", "22021")] * retries.ATTEMPTS),
         ):
             self.want(T)
-            self.patch(adder, "LONGEST_DELAY", 0.02)
+            self.patch(retries, "LONGEST_DELAY", 0.02)
             self.fails(moment, *errors)
             self.refused(str(errors[0]))
             self.fails("none")

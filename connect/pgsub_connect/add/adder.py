@@ -19,7 +19,6 @@ refused: it stays as it was, its changes stay left out, and that is a finding. O
 published any more is no longer added; where its rows are to go, the transaction has none.
 """
 
-import collections
 import errno
 import os
 import time
@@ -30,10 +29,8 @@ from pgsub_feed import log
 from pgsub_feed.errors import Passing, Stopped, Unfit
 from pgsub_feed.texts import counted, lsn_text
 
-from ..copy.table_reader import GONE
-from ..copy.tries import PASSING
 from ..drift.findings import PUBLICATION, About
-from ..errors import NoSlot, Renewed, ServerError, Unconnected
+from ..errors import NoSlot, Renewed, ServerError
 from ..stream.common import Common
 from ..stream.filter_end import NO_ROOM, FilterEnded
 from ..stream.hold import Hold
@@ -43,60 +40,12 @@ from ..stream.statuses import Confirming
 from .kept_changes import KeptChanges
 from .replacement import LeftOut, Rows
 from .requests import Publications, Requests, Stream, TooLarge, too_roomy
+from .retries import ROOMLESS, Retries
 from .turn import SLOT, RowsSender, Turn
 
 IDLE, READING, SEEKING, SENT = "idle", "reading", "seeking", "sent"
-# After how many seconds a table is tried again, first and at most, and refused after how often; and
-# after how often where the disk had no room for its rows.
-FIRST_DELAY, LONGEST_DELAY, ATTEMPTS, ROOMLESS = 1.0, 60.0, 5, 2
 # For how many seconds the stream is held while rows are read: those of a small table are there then.
 HELD = 1.0
-
-
-class Retries:
-    """Counts what attempts ended with, by table and SQLSTATE."""
-
-    def __init__(self) -> None:
-        self.next_try = self.delay = 0.0
-        self.counts: collections.Counter[tuple[int, str]] = collections.Counter()
-
-    def is_time(self) -> bool:
-        return time.monotonic() >= self.next_try
-
-    def succeed(self) -> None:
-        """The next table is tried at once."""
-        self.delay = self.next_try = 0.0
-
-    def hurry(self) -> None:
-        """So it is, since more was asked for."""
-        self.next_try = 0.0
-
-    def wait(self) -> None:
-        """Waits, longer each time."""
-        self.delay = min(2 * self.delay, LONGEST_DELAY) if self.delay else FIRST_DELAY
-        self.next_try = time.monotonic() + self.delay
-
-    def wake(self) -> None:
-        """Something else can be tried, unless an attempt has failed."""
-        self.next_try = self.next_try if self.delay else 0.0
-
-    def rest(self) -> None:
-        """Nothing can be tried for now."""
-        self.next_try = time.monotonic() + LONGEST_DELAY
-
-    def is_over(self, oid: int, error: Exception) -> bool:
-        """Notes what ended an attempt. Returns whether there is to be no other."""
-        # (whom the server has let in before it may let in again)
-        if not isinstance(error, ServerError) or isinstance(error, Unconnected):
-            return False
-        if not error.sqlstate or error.sqlstate.startswith((*PASSING, *GONE)):
-            return False
-        return self.are_too_many(oid, error.sqlstate, ATTEMPTS) or error.is_lasting()
-
-    def are_too_many(self, oid: int, why: str, most: int) -> bool:
-        """Counts what ended an attempt. Returns whether that was so often."""
-        self.counts[oid, why] += 1
-        return self.counts[oid, why] >= most
 
 
 class Adder:
@@ -214,7 +163,7 @@ class Adder:
                 self.end_reading(turn)
                 return
             if self.progress.server.is_waited_for:
-                self.hold.kept = [*self.place.hurry(), *self.hold.kept]
+                self.hold.keep_first(self.place.hurry())
             elif time.monotonic() > self.until:
                 self.place.go_on()
             if turn.text != self.text:
@@ -239,7 +188,7 @@ class Adder:
             asked = oid, self.requests.open, described
             self.turn = turn = Turn(*asked, self.limits, server, folder, self.wake)
             self.kept = kept = KeptChanges(oid, folder, self.confirming.reached())
-            self.leaving.kept = kept
+            self.leaving.keep(kept)
             self.place.begin(kept.reached, is_urgent=server.is_waited_for)
             self.until = time.monotonic() + HELD
             turn.start()
@@ -335,7 +284,7 @@ class Adder:
             self.fail(turn.oid, Passing(f"{self.folder()}: {error.strerror}"))
             raise Renewed("the session ends, since a table's rows can't be read") from None
         self.ends_session = self.leaving.has_described_otherwise(rows.relation)
-        self.leaving.kept = None
+        self.leaving.keep(None)
         if not self.ends_session:
             self.leave_place()
         self.phase = SENT
@@ -344,7 +293,7 @@ class Adder:
 
     def close(self) -> None:
         """What was read and kept goes."""
-        self.leaving.kept = None
+        self.leaving.keep(None)
         if self.turn:
             self.turn.close()
         if self.kept:
@@ -393,7 +342,7 @@ class Adder:
 
     def leave_place(self) -> None:
         """The stream goes on, with what was kept back."""
-        self.hold.kept = [*self.place.end(), *self.hold.kept]
+        self.hold.keep_first(self.place.end())
 
     def refuse(self, oid: int, why: str) -> None:
         """Notes why a table can't be added. What is there of it isn't right, so that is found."""

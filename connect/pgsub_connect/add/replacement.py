@@ -115,6 +115,10 @@ class Leaving:
         # by OID the last Relation message that was passed on
         self.described: dict[bytes, bytes] = {}
 
+    def keep(self, kept: KeptChanges | None) -> None:
+        """What is left out of that table is kept there from now on, or no more."""
+        self.kept = kept
+
     def set(self, points: dict[int, int]) -> None:
         """Leaves out the changes of these tables from now on, and of no others."""
         self.points = dict(points)

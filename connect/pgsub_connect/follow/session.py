@@ -107,7 +107,7 @@ class Session:
         place, leaving = self.requests.adder.place, self.requests.adder.leaving
         if place.is_open:
             payloads, behind = place.passing(payloads, bool(self.noting.begun))
-            hold.kept = [*behind, *hold.kept]
+            hold.keep_first(behind)
         recorded = payloads
         if leaving.points:
             payloads = leaving.passing(payloads)

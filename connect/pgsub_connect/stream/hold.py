@@ -158,6 +158,10 @@ class Hold:
             it for it in passed if it[:1] != KEEPALIVE or int.from_bytes(it[1:9], "big") < point
         ]
 
+    def keep_first(self, payloads: list[bytes]) -> None:
+        """These come before what is kept."""
+        self.kept = [*payloads, *self.kept]
+
     def take_kept(self) -> list[bytes]:
         kept, self.kept = self.kept, []
         return kept
