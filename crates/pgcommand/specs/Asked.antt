@@ -357,3 +357,9 @@ IsRefusalOf words Memory = Unit {0}
 abbrev pub IsUsage : Error → CommandFault → Type 0
 IsUsage error (Usage told) = (told ≡ error) × (kind_of error ≢ OutOfMemory)
 IsUsage error Memory = kind_of error ≡ OutOfMemory
+
+-- The exit status where there is no memory for the task of a command line with this command:
+-- where that is `follow`, 14, which no reader takes for a rejected stream.
+abbrev pub status_without_memory : Option Text → ℕ
+status_without_memory None = 1
+status_without_memory (Some word) = if bytes_eq word (codes "follow") then 14 else 1

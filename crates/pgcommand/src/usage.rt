@@ -1,9 +1,10 @@
 //! The words of the command line as the system has them, and what is told where they ask for no
 //! task.
 
-ghost use Rattle.std.specs.Prelude.{◌≡◌, ◌≢◌, ◌⊎◌};
+ghost use Rattle.std.specs.Prelude.{◌≡◌, ◌≢◌, ◌⊎◌, option_map, slice_get, string_bytes};
 ghost use Rattle.clap.specs.Values.{kind_of};
 ghost use Rattle.clap.specs.declared.error.kind.ErrorKind.TheVariants as kind;
+ghost use Rattle.pgcommand.specs.Asked.{status_without_memory};
 
 use clap::Error;
 use std::alloc::AllocError;
@@ -21,7 +22,8 @@ pub const MEMORY: u8 = 1;
 /// That of `follow` there.
 pub const FOLLOW_MEMORY: u8 = 14;
 
-/// The words of the command line, the program's name first. None where they aren't UTF-8.
+/// The words of the command line, the program's name first. None where they aren't UTF-8. Which
+/// words the system has, no clause can say.
 pub fn words(rt: &HostRuntime) -> Result<Option<Vec<String>>, AllocError> {
     match env::args(rt) {
         Ok(words) => Ok(Some(words.collect(rt.alloc())?)),
@@ -58,11 +60,22 @@ fn tell_build(rt: &HostRuntime, error: &Error, commit: &str, kit: &str) -> io::R
     }
 }
 
-/// Tells that there is no memory for the task that the words ask for. Returns the exit status.
-pub fn tell_memory(rt: &HostRuntime, words: &[String]) -> u8 {
-    let _ = eprintln!(rt; "pgsub: memory");
-    match words.get(1) {
-        Some(name) if name.as_str() == "follow" => FOLLOW_MEMORY,
+/// The exit status where there is no memory for the task of a command line with this command.
+fn memory_status(command: Option<&String>) -> u8
+    ensures { result ≡ status_without_memory
+        (option_map (λ word. string_bytes word.now) command.entry) }
+{
+    match command {
+        Some(word) if word.as_str() == "follow" => FOLLOW_MEMORY,
         _ => MEMORY,
     }
+}
+
+/// Tells that there is no memory for the task that the words ask for. Returns the exit status.
+pub fn tell_memory(rt: &HostRuntime, words: &[String]) -> u8
+    ensures { result ≡ status_without_memory
+        (option_map (λ word. string_bytes word) (slice_get words.now 1)) }
+{
+    let _ = eprintln!(rt; "pgsub: memory");
+    memory_status(words.get(1))
 }
