@@ -12,7 +12,9 @@
 mod recorded;
 mod server;
 mod spooling;
+mod telling;
 
 pub use recorded::{input_of, reporter_of};
 pub use server::{Follower, follow_server};
 pub use spooling::{make_spool, tell_unspooled};
+pub use telling::{tell_counts, tell_notes};

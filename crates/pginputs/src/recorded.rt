@@ -1,5 +1,8 @@
 //! Recordings and files that are applied.
 
+ghost use Rattle.std.specs.Prelude.{◌≡◌, IfOk, IfSome, true};
+ghost use Rattle.pginputs.specs.Applied.{ComesFor, is_reported};
+
 use pgcommand::Task;
 use pgorder::Version;
 use pgsub_cli::fault::RunFault;
@@ -18,7 +21,9 @@ use std::rt::Stderr;
 pub fn input_of(
     rt: &HostRuntime,
     task: &Task,
-) -> Result<Option<(Version, Incoming<File>)>, RunFault> {
+) -> Result<Option<(Version, Incoming<File>)>, RunFault>
+    ensures { IfOk result (ComesFor task.now) }
+{
     let Task::Apply {
         version,
         raw,
@@ -38,7 +43,9 @@ pub fn reporter_of<'r>(
     rt: &'r HostRuntime,
     task: &Task,
     input: &Option<(Version, Incoming<File>)>,
-) -> Option<RefCell<Reporter<&'r HostRuntime, Stderr>>> {
+) -> Option<RefCell<Reporter<&'r HostRuntime, Stderr>>>
+    ensures { IfSome result (λ _. is_reported task.now ≡ true) }
+{
     let Task::Apply {
         file,
         progress: true,

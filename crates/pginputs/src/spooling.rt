@@ -2,7 +2,8 @@
 //!
 //! PostgreSQL documentation, Streaming of Large Transactions for Logical Decoding.
 
-ghost use Rattle.std.specs.Prelude.{◌≡◌, None, Err, IfOk, IfErr};
+ghost use Rattle.std.specs.Prelude.{◌≡◌, None, Err, IfOk, IfErr, is_some, true};
+ghost use Rattle.pginputs.specs.Serving.{names_spool};
 ghost use Rattle.pgsystem.specs.Spooling.{IsOfMaking};
 ghost use Rattle.pgsub_cli.specs.declared.fault.RunFault.TheVariants.{Stream};
 ghost use Rattle.pgsub_cli.specs.Caused.{TellsBecause};
@@ -56,7 +57,10 @@ pub fn tell_unspooled<E: Output>(alloc: Global, fault: SpoolFault, err: &mut E) 
 pub(crate) fn spool_of(
     rt: &HostRuntime,
     task: &Task,
-) -> Result<Option<SpoolFile<FileFrom<Unknown>>>, SpoolFault> {
+) -> Result<Option<SpoolFile<FileFrom<Unknown>>>, SpoolFault>
+    ensures made { IfOk result (λ spool. is_some spool ≡ names_spool task.now) }
+    ensures fault { IfErr result (λ fault. (names_spool task.now ≡ true) × IsOfMaking fault) }
+{
     let Task::Follow {
         store,
         spool: Some(spool),

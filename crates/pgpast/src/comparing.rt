@@ -131,6 +131,8 @@ impl<
         ensures reader { IfOk result (λ it. (it.reader ≡ reader) × (it.stops ≡ stops)) }
         ensures unread { IfOk result (λ it. (it.store ≡ store) × (it.reached ≡ None)
             × (part_of it.room.items it.from it.len ≡ [])) }
+        ensures kept { IfOk result (λ it. (it.listener ≡ listener) × (it.notes ≡ notes)
+            × (it.compared ≡ compared)) }
         ensures handed { (v : Version) (limit max : ℕ) (past : Noted) (reached : ℕ) →
             IsCompared v limit max past reached [] compared [] →
             IfOk result (λ it. IsHanded F.holds L.hears L.loses v limit max past reached

@@ -1,23 +1,37 @@
 //! Why a file of noted commits can't be used.
 
+ghost use Rattle.std.specs.Prelude.{Some};
+ghost use Rattle.pgpast.specs.Telling.{fault_text};
+
 use std::alloc::AllocError;
-use std::io;
+use std::error::Error;
 use std::io::ErrorKind;
-use thiserror::Error;
+use std::{fmt, io};
 
 /// Why a file of noted commits can't be used.
-#[derive(Clone, Copy, Debug, PartialEq, Eq, Error)]
+#[derive(Clone, Copy, Debug, PartialEq, Eq)]
 pub enum NotesFault {
     /// The file holds something else.
-    #[error("it is no file of noted commits")]
     Foreign,
     /// It can't be opened, read or written, or another process has it.
-    #[error("it can't be read or written")]
     Refused,
     /// Memory has run out.
-    #[error("memory")]
     Memory,
 }
+
+impl fmt::Display for NotesFault {
+    ghost output = { λ fault. Some (fault_text fault) };
+
+    fn fmt<W: fmt::Write>(&self, f: &mut fmt::Formatter<W>) -> fmt::Result {
+        f.write_str(match self {
+            NotesFault::Foreign => "it is no file of noted commits",
+            NotesFault::Refused => "it can't be read or written",
+            NotesFault::Memory => "memory",
+        })
+    }
+}
+
+impl Error for NotesFault {}
 
 impl From<AllocError> for NotesFault {
     fn from(_: AllocError) -> NotesFault {

@@ -1,20 +1,19 @@
 //! Standard input as the program compares it with the commits that a file has noted.
 
+ghost use Rattle.std.specs.Prelude.{◌≡◌, [], IfOk, None, min, string_bytes};
+ghost use Rattle.pgcompared.specs.Live.{IsCompared};
+ghost use Rattle.pgpast.specs.Handing.{part_of};
+ghost use Rattle.pgrepeats.specs.declared.past.Past.{Past};
+
 use crate::comparing::Comparing;
 use crate::fault::NotesFault;
 use crate::file::PlainFile;
-use crate::lines::{Counts, RepeatLines};
+use crate::lines::RepeatLines;
 use crate::notes::Notes;
 use pgcompared::Compared;
 use pgorder::Version;
 use std::cell::Cell;
 use std::rt::{Stderr, Stdin};
-
-/// The status of a fault of the file.
-const FILE: u8 = 3;
-
-/// The status where memory has run out.
-const MEMORY: u8 = 14;
 
 /// The longest payload of a frame: its length counts four bytes of its own, and fits 31 bits.
 const LONGEST_FRAME: u32 = 2_147_483_643;
@@ -30,6 +29,8 @@ pub type ComparedInput<'p> = Comparing<Stdin, PlainFile, RepeatLines<Stderr>, &'
 /// version of the protocol, and its payloads have so many bytes at most. With `stops` it ends at a
 /// contradiction.
 ///
+/// What the file holds, and what standard error gets, no clause can say: they are the system's.
+///
 /// # Errors
 ///
 /// The file can't be used, or memory has run out.
@@ -40,7 +41,14 @@ pub fn compared_input<'p>(
     max_frame: u32,
     stops: bool,
     position: &'p Cell<u64>,
-) -> Result<ComparedInput<'p>, NotesFault> {
+) -> Result<ComparedInput<'p>, NotesFault>
+    ensures compared { IfOk result (λ it. (past : Past)
+        × IsCompared version 1000000 (min max_frame 2147483643) past 0 [] it.compared []) }
+    ensures unread { IfOk result (λ it. (it.reached ≡ None) × (it.stops ≡ stops)
+        × (part_of it.room.items it.from it.len ≡ [])) }
+    ensures store { IfOk result (λ it. it.store ≡ position.entry) }
+    ensures told { IfOk result (λ it. string_bytes it.listener.path ≡ path.now) }
+{
     let alloc = rt.alloc();
     let opened = Notes::open(alloc, PlainFile::open(rt, path)?)?;
     let found = opened.found();
@@ -51,23 +59,4 @@ pub fn compared_input<'p>(
     let notes = opened.notes;
     let input = Comparing::new(alloc, rt.stdin(), lines, position, compared, notes, stops)?;
     Ok(input)
-}
-
-/// Tells why a file of noted commits can't be used. Returns the exit status.
-pub fn tell_notes(rt: &HostRuntime, path: &str, fault: NotesFault) -> u8 {
-    match fault {
-        NotesFault::Memory => {
-            let _ = eprintln!(rt; "pgsub: memory");
-            MEMORY
-        }
-        _ => {
-            let _ = eprintln!(rt; "pgsub: repeats: can't use {path}: {fault}");
-            FILE
-        }
-    }
-}
-
-/// Tells how many commits came before.
-pub fn tell_counts(rt: &HostRuntime, counts: Counts) {
-    let _ = eprintln!(rt; "pgsub: repeats: {counts}");
 }

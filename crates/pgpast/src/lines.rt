@@ -1,8 +1,10 @@
 //! What is told of noted commits.
 
-ghost use Rattle.std.specs.Prelude.{◌≡◌, ⊤, IfOk, string_bytes};
+ghost use Rattle.std.specs.Prelude.{◌≡◌, ⊤, IfOk, Some, string_bytes};
+ghost use Rattle.pgpast.specs.Telling.{counts_line, counts_text, notes_line, status_of_notes};
 
 use crate::comparing::RepeatListener;
+use crate::fault::NotesFault;
 use pgcompared::Finding;
 use std::alloc::{AllocError, Global};
 use std::fmt;
@@ -17,9 +19,38 @@ pub struct Counts {
 }
 
 impl fmt::Display for Counts {
+    ghost output = { λ counts. Some (counts_text counts) };
+
     fn fmt<W: fmt::Write>(&self, f: &mut fmt::Formatter<W>) -> fmt::Result {
         let (equal, unknown, forgotten) = (self.equal, self.unknown, self.forgotten);
         write!(f, "{equal} equal, {unknown} unknown, {forgotten} forgotten")
+    }
+}
+
+/// The line of how many commits came before.
+pub fn counts_line(alloc: Global, counts: Counts) -> Result<String, AllocError>
+    ensures { IfOk result (λ line. string_bytes line ≡ counts_line counts) }
+{
+    format!(in alloc; "pgsub: repeats: {counts}\n")
+}
+
+/// The line of why the file of noted commits with this path can't be used.
+pub fn notes_line(alloc: Global, path: &str, fault: NotesFault) -> Result<String, AllocError>
+    ensures { IfOk result (λ line. string_bytes line ≡ notes_line path.now fault) }
+{
+    match fault {
+        NotesFault::Memory => String::from_str(alloc, "pgsub: memory\n"),
+        _ => format!(in alloc; "pgsub: repeats: can't use {path}: {fault}\n"),
+    }
+}
+
+/// The exit status then: 14 where memory has run out, else 3.
+pub fn notes_status(fault: NotesFault) -> u8
+    ensures { result ≡ status_of_notes fault }
+{
+    match fault {
+        NotesFault::Memory => 14,
+        _ => 3,
     }
 }
 

@@ -2,6 +2,8 @@
 //! in a file what they lead to.
 #![tactic(auto)]
 
+ghost use Rattle.std.specs.Prelude.{⊤};
+
 mod build;
 
 use build::{COMMIT, KIT};
@@ -107,13 +109,17 @@ struct Over<'a, D: Folder + Drop> {
     feed: Option<FeedPlan<'a, D>>,
 }
 
+// What a run leaves and tells is said by the clauses of `pgruns::follow`.
 impl<D: Folder + Supposing + Drop> Follower for Over<'_, D> {
+    ghost follows = { λ _ _ _. ⊤ };
+
     // Standard error is told of changes that found no row as soon as their commits are stored.
     fn follow<R: SessionReader + Drop, W: Write + Drop, M: Disk + Drop>(
         self,
-        (input, output): (R, W),
+        ends: (R, W),
         spool: Option<SpoolFile<M>>,
     ) -> (u8, Link<R, W>) {
+        let (input, output) = ends;
         let Over {
             rt,
             task,
