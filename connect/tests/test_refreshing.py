@@ -24,6 +24,7 @@ from pgsub_connect.follow.snapshots import Snapshots
 from pgsub_connect.server import session
 from pgsub_connect.server.catalog import Catalog, Part, Partition
 from pgsub_connect.store import at_rest, socket_file
+from pgsub_connect.store.checkpoint import Checkpoint
 from pgsub_feed.errors import FileError, Passing, Stopped, Unfit
 from pgsub_feed.interruption import Check, never
 
@@ -201,6 +202,39 @@ class Case(Quiet):
             finally:
                 ended.set()
                 thread.join()
+
+
+class OfAnotherServer(Case):
+    """A mistyped --dsn: what is there says nothing of the store."""
+
+    def setUp(self) -> None:
+        super().setUp()
+        checkpoint = Checkpoint(self.store)
+        checkpoint.write(True, phase="following", system="77", database="shop", slot="s1")
+        os.close(checkpoint.file)
+        self.remembered.note_database(5, "shop")
+        self.remembered.save()
+
+    def answer(self, system: str, database: str, oid: str) -> None:
+        self.server.answer("pg_control_system", [[system, database]])
+        self.server.answer("SELECT d.oid FROM pg_catalog.pg_database", [[oid]])
+
+    def test_it_is_rejected(self) -> None:
+        self.now = a_catalog(THREE)
+        for system, database, oid in (("78", "shop", "5"), ("77", "test", "6")):
+            self.answer(system, database, oid)
+            told = f"the database shop of the server 77, and this is {database} of {system}"
+            with self.assertRaisesRegex(Unfit, told):
+                self.refresh(0)
+            with self.assertRaisesRegex(Unfit, told):
+                add.run(self.options("three"), never)
+        self.assertEqual(self.wanted(), {})
+
+    def test_a_renamed_database_is_the_same(self) -> None:
+        self.answer("77", "market", "5")
+        self.refresh(0)
+        self.assertEqual(self.wanted(), {3: ""})
+        self.assertEqual(add.run(self.options("one"), never), 0)
 
 
 class Adds(Case):

@@ -23,7 +23,7 @@ from ..drift.remembered import Remembered
 from ..errors import ServerError
 from ..server.publication_setup import names_of
 from ..server.publications import published_tables
-from ..server.session import Subscription
+from ..server.session import Subscription, check_followed
 from ..store.at_rest import check_there, follower_of, is_followed
 from ..store.checkpoint import locked, read_known
 from .arguments.server import StoreOptions, settled_store
@@ -55,8 +55,10 @@ def settled(options: Options) -> Options:
 
 def run(options: Options, check: Check) -> int:
     check_there(options.store)
-    slot = read_known(options.store + ".connector").slot or options.slot
-    with Subscription(options.dsn, slot).connected("tables", check) as connection:
+    known, noted = read_known(options.store + ".connector"), Remembered(options.store).database
+    subscription = Subscription(options.dsn, known.slot or options.slot)
+    with subscription.connected("tables", check) as connection:
+        check_followed(connection, known.system, known.database, noted)
         published = published_tables(connection, options.publication)
     tables = {it.oid: it.text() for it in chosen(published, list(options.table))}
     return add(options.store, options.mode, tables, {}, check)

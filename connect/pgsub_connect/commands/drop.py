@@ -28,7 +28,7 @@ from ..server.connection import Connection
 from ..server.libpq import TICK
 from ..server.publications import drop_publication, oid_of, other_slots
 from ..server.publication_setup import inserts_of
-from ..server.session import Subscription, database_oid, is_same_database, of_slot, other_slot
+from ..server.session import Subscription, check_followed, of_slot, other_slot
 from ..status.files import STATUS
 from ..store.checkpoint import locked, read_known
 from ..store.placing import OF_STORE
@@ -141,20 +141,10 @@ class Dropper:
         if not files_of(self.store):
             raise FileError(f"{self.store}: there is no store, nor anything beside it")
 
-    @understood("itself")
     def check_server(self, connection: Connection) -> None:
         """Rejects a server that isn't the one that the store follows."""
-        known = self.known
-        if not known.system:
-            return
-        system, database = connection.rows(
-            "SELECT s.system_identifier, pg_catalog.current_database() FROM pg_catalog.pg_control_system() s"
-        )[0]
-        oid, noted = database_oid(connection), noted_database(self.remembered)
-        is_same = is_same_database(known.database, noted, database or "", oid)
-        if system != known.system or not is_same:
-            text = f"the store follows the database {known.database} of the server {known.system}, and this is {database} of {system}"
-            raise Unfit(text)
+        known, noted = self.known, noted_database(self.remembered)
+        check_followed(connection, known.system, known.database, noted)
 
     @understood("a slot")
     def drop_slot(self, connection: Connection) -> bool:

@@ -28,6 +28,7 @@ from ..drift.remembered import Remembered
 from ..server.catalog import Catalog
 from ..server.catalog_reader import read_catalog
 from ..server.publication_setup import names_of
+from ..server.session import check_followed
 from ..store.at_rest import check_there
 from ..store.checkpoint import read_known
 from . import add
@@ -100,12 +101,13 @@ settled = settled_store
 def run(options: Options, check: Check) -> int:
     """Compares, asks and has it done; the exit status."""
     check_there(options.store)
-    slot = read_known(options.store + ".connector").slot or options.slot
-    subscription = dataclasses.replace(options.subscription(), slot=slot)
+    known = read_known(options.store + ".connector")
+    subscription = dataclasses.replace(options.subscription(), slot=known.slot or options.slot)
     remembered = Remembered(options.store, options.mode)
     if remembered.catalog is None:
         raise FileError(f"{remembered.path}: there is no such file yet: the next session makes it")
     with subscription.connected("tables", check) as connection:
+        check_followed(connection, known.system, known.database, remembered.database)
         now = read_catalog(connection, subscription.publications)
         now = resolved(connection, remembered.catalog, now)
     told = compared(remembered, now)

@@ -136,6 +136,24 @@ def is_same_database(name: str, noted: tuple[int, str] | None, here: str, oid: i
     return noted[0] == oid if noted and noted[0] and oid else name == here
 
 
+@understood("itself")
+def check_followed(
+    connection: Connection, system: str, database: str, noted: tuple[int, str] | None
+) -> None:
+    """Rejects a server or database that isn't the one of a checkpoint, which may name none yet.
+    `noted`: the database's OID and name beside the store. (No replication connection is needed.)"""
+    if not system:
+        return
+    here, name = connection.rows(
+        "SELECT s.system_identifier, pg_catalog.current_database() FROM pg_catalog.pg_control_system() s",
+        QUICK,
+    )[0]
+    oid = database_oid(connection)
+    if here != system or not is_same_database(database, noted, name or "", oid):
+        ours = f"the database {database} of the server {system}"
+        raise Unfit(f"the store follows {ours}, and this is {name} of {here}")
+
+
 def tell_version_1() -> None:
     """Tells that version 1 is taken in the place of version 2, which was asked for."""
     log.info("the server has version 1 of the protocol alone: large transactions come whole")
