@@ -16,6 +16,7 @@ from pgsub_connect.commands.drop import Dropper, ask_terminal, files_of
 from pgsub_connect.errors import ServerError
 from pgsub_connect.server import session
 from pgsub_connect.store.checkpoint import Checkpoint
+from pgsub_connect.store.file import STORED
 from pgsub_feed.errors import FileError, Passing, Unfit
 from pgsub_feed.tables.first_rows import prepare
 
@@ -266,6 +267,31 @@ class Dropping(Quiet):
         for slot in ("", "s1"):
             self.refused(FileError, "cpoy.db: there is no store, nor anything beside", slot=slot)
         self.assertEqual(self.server.opened, 0)
+
+    def test_a_file_of_something_else(self) -> None:
+        """A mistyped name: neither it nor the slot of another store goes."""
+        self.store = os.path.join(self.folder, "rows.db")
+        for slot in ("", "s1"):
+            self.refused(FileError, "rows.db: it isn't a store of pgsub", slot=slot, yes=True)
+        os.mkdir(os.path.join(self.folder, "notes"))
+        self.store = os.path.join(self.folder, "notes")
+        self.refused(FileError, "notes: it isn't a store of pgsub", slot="s1", yes=True)
+        self.assertEqual(self.server.opened, 0)
+
+    def test_a_copy_of_a_store(self) -> None:
+        """As a snapshot, beside which nothing says which slot the store follows."""
+        self.store = os.path.join(self.folder, "copy.db2")
+        with contextlib.closing(sqlite3.connect(self.store)) as base:
+            for name in STORED:
+                base.execute(f"CREATE TABLE {name} (x)")
+        self.refused(Unfit, "no checkpoint beside it names the slot", yes=True)
+        self.assertEqual(self.server.opened, 0)
+        self.run_it(slot="s1", yes=True)
+        self.assertNotIn("copy.db2", self.left())
+
+    def test_the_slot_has_no_default(self) -> None:
+        options = drop.settled(drop.Options(store=self.store + "2"))
+        self.assertEqual((options.slot, options.publication), ("", ["pgsub"]))
 
     def test_a_slot_of_another_plugin(self) -> None:
         self.slots = [["f", "f"]]

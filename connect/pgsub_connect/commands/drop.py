@@ -16,7 +16,7 @@ from pgsub_feed.errors import FileError, Passing, Unfit, told_of
 from pgsub_feed.files import OF_FILE, meant, own_files, remove
 from pgsub_feed.interruption import Check, never
 from pgsub_feed.json_texts import Unreadable, object_of, whole_of
-from pgsub_feed.options import flag
+from pgsub_feed.options import flag, option
 from pgsub_feed.tables.schema import read_position
 from pgsub_feed.tables.sqlite_files import is_tables
 from pgsub_feed.texts import literal
@@ -31,6 +31,7 @@ from ..server.publication_setup import inserts_of
 from ..server.session import Subscription, check_followed, of_slot, other_slot
 from ..status.files import STATUS
 from ..store.checkpoint import locked, read_known
+from ..store.file import is_store
 from ..store.placing import OF_STORE
 from ..store.spool_folder import SUFFIX as SPOOL, remove_spool
 from .arguments.server import StoreOptions, settled_store
@@ -45,6 +46,8 @@ follower that runs
 
 # Beside which names processes make files: copies asked of a follower, exports for a sink.
 ASKED = (".export", ".base")
+# Beside a store of these at least one is there.
+KNOWN_BY = (".connector", ".tables")
 # How long a slot that was just left by its connection is waited for.
 PATIENCE = 5.0
 
@@ -54,6 +57,7 @@ class Options(StoreOptions):
     """Whose slot, publications and files go."""
 
     store: str = store_option("the store whose slot, publications and files go")
+    slot: str = option("replication slot (default: the one that the store follows)", "")
     all: bool = flag("the feed and the tables that follow it go, too")
     yes: bool = flag("don't ask; what somebody else may have made or may use stays")
 
@@ -137,9 +141,17 @@ class Dropper:
                 self.drop_files()
 
     def check_store(self) -> None:
-        """Rejects a name that no store has: its slot would be that of another one."""
+        """Rejects a name that no store has, and a file of something else: the slot would be that of
+        another store. A spoiled store is known by what is beside it."""
         if not files_of(self.store):
             raise FileError(f"{self.store}: there is no store, nor anything beside it")
+        is_known = any(os.path.lexists(self.store + it) for it in KNOWN_BY)
+        if not (is_known or is_store(self.store)):
+            text = f"{self.store}: it isn't a store of pgsub, and no checkpoint of one is beside it"
+            raise FileError(text)
+        if not (self.known.slot or self.options.slot):
+            text = f"{self.store}: no checkpoint beside it names the slot, which may be that of another store"
+            raise Unfit(f"{text}: name it by --slot, or remove a mere copy by hand")
 
     def check_server(self, connection: Connection) -> None:
         """Rejects a server that isn't the one that the store follows."""
@@ -233,7 +245,9 @@ class Dropper:
         return found
 
 
-settled = settled_store
+def settled(options: Options) -> Options:
+    # (the slot has no default here)
+    return dataclasses.replace(settled_store(options), slot=options.slot)
 
 
 def run(options: Options, check: Check) -> int:
