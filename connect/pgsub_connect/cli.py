@@ -10,6 +10,7 @@ from pgsub_feed import log
 from pgsub_feed.interruption import Check
 from pgsub_feed.options import Parser, add_fields, add_version, meant
 from pgsub_feed.program import check_signals, guarded
+from pgsub_feed.standard import open_closed
 
 from .commands.arguments.words import ENDS
 
@@ -147,4 +148,5 @@ def ran(command: Command, options: Any) -> int:
 
 
 def run() -> None:
+    open_closed()
     sys.exit(main(sys.argv[1:]))

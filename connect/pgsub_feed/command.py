@@ -25,6 +25,7 @@ from .reader.polling import Poll
 from .reader.segments import Reader
 from .reader.whole import Whole
 from .sinks.first_rows import exported
+from .standard import open_closed
 from .undo.transaction import undo
 
 Format = Lines | ByName | Debezium | Bulk
@@ -220,6 +221,7 @@ def main(words: Sequence[str]) -> int:
 
 
 def start() -> None:
+    open_closed()
     log.name_program("pgsub-feed")
     # (who reads it may end first)
     signal.signal(signal.SIGPIPE, signal.SIG_DFL)
