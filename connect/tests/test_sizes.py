@@ -2,6 +2,7 @@
 
 from __future__ import annotations
 
+import signal
 import unittest
 
 from pgsub_connect.stream.filter_end import (
@@ -46,6 +47,16 @@ class Killed(unittest.TestCase):
         kills.note(KILLED, 7, SMALL)
         with self.assertRaisesRegex(KilledTwice, r"more memory than there was \(.*MemoryMax\)$"):
             kills.note(KILLED, 7, SMALL)
+
+    def test_twice_at_a_limit_that_is_none_of_memory(self) -> None:
+        """Each end names it, also the first one, and one in no large transaction."""
+        kills, ended = Kills(BOUNDED), FilterEnded(-signal.SIGXFSZ, "")
+        self.assertRegex(str(ended), r"^signal 25 ended the filter \(.* `ulimit -f`")
+        kills.note(ended, 7, SMALL)
+        with self.assertRaises(KilledTwice) as raised:
+            kills.note(ended, 7, SMALL)
+        self.assertIn("ulimit -f", str(raised.exception))
+        self.assertNotIn("memory", str(raised.exception))
 
     def test_in_two(self) -> None:
         kills = Kills(BOUNDED)

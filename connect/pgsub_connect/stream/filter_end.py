@@ -1,6 +1,7 @@
 """How a filter ends, and what it says of changes that found no row."""
 
 import re
+import signal
 from typing import NamedTuple
 
 from pgsub_feed import errors
@@ -12,6 +13,11 @@ REJECTED, SPOOL_FULL, FRAME_TOO_LARGE, UNOPENED, REFUSED, MEMORY, BROKEN = 1, 10
 PASSING = (UNOPENED, REFUSED, MEMORY, BROKEN)
 # What is told of one that couldn't open its store.
 BUSY = "another program may have the store open, as `pgsub dump`: let that end. Beside a follower `pgsub-connect export` or `follow --tables` has the rows"
+# The limits of which a signal tells, so that a later try ends likewise.
+OF_LIMITS: dict[int, str] = {
+    signal.SIGXFSZ: "a file would be larger than allowed: raise `ulimit -f`, or a unit's LimitFSIZE",
+    signal.SIGXCPU: "it took more processor time than allowed: raise `ulimit -t`, or a unit's LimitCPU",
+}
 # The status of one whose input ended, after changes that found no row.
 MISSED = 16
 # Those with which it may end where a disk is full.
@@ -45,7 +51,7 @@ class FilterEnded(Failure):
         ended = ended if status >= 0 else f"signal {-status} ended the filter"
         ended = f"{ended}: {said}" if said else ended
         is_busy = status == UNOPENED and said.endswith(" Refused")
-        why = room or (BUSY if is_busy else "")
+        why = OF_LIMITS.get(-status, "") or room or (BUSY if is_busy else "")
         super().__init__(f"{ended} ({why})" if why else ended)
         self.status, self.said = status, said
         # what is to be done where it ended at a limit

@@ -6,7 +6,8 @@ import dataclasses
 import os
 
 from .awake import GROUPS, groups
-from .filter_end import FRAME_TOO_LARGE, MEMORY, REJECTED, SPOOL_FULL, TOO_MANY_OPEN, FilterEnded
+from .filter_end import FRAME_TOO_LARGE, MEMORY, OF_LIMITS, REJECTED, SPOOL_FULL, TOO_MANY_OPEN
+from .filter_end import FilterEnded
 
 # The longest frame that PostgreSQL can send, with its length.
 LONGEST_FRAME = 2147483643
@@ -83,6 +84,8 @@ class Kills:
             self.xid = xid
             return
         told = f"twice in the transaction {xid}, of which {size} bytes were passed on"
+        if -ended.status in OF_LIMITS:
+            raise KilledTwice(ended.status, told)
         is_bounded = self.limits.max_buffered is not None
         more = f", and --max-buffered of {size} bytes at least" if is_bounded else ""
         raise KilledTwice(ended.status, f"{told}: {SCARCE}{more}")
