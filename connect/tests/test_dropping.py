@@ -260,6 +260,9 @@ class Dropping(Quiet):
         self.refused(
             Unfit, "the store follows the database shop of the server 77, and this is shop of 78"
         )
+        # (as pg_upgrade makes one of another identity, where nothing else can be dropped)
+        for part in (r"pg_drop_replication_slot\('s1'\)", f"rm -r {self.store}-wal "):
+            self.refused(Unfit, part)
 
     def test_a_store_that_isnt_there(self) -> None:
         """One that was mistyped: no server is asked for the slot that another store follows."""

@@ -864,6 +864,8 @@ class Fits(Case):
     def test_another_server(self) -> None:
         for change, error, text in (
             ({"system": "78"}, Unfit, "and not slot pgsub of shop of 77"),
+            ({"system": "78"}, Unfit, "store. If pg_upgrade made this server of that one, copy"),
+            ({"system": "78", "slot": "other"}, Unfit, "or another store$"),
             ({"database": "other"}, Unfit, "database other"),
             ({"slot": "other"}, Unfit, "follows slot other"),
         ):

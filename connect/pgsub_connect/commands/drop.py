@@ -156,7 +156,14 @@ class Dropper:
     def check_server(self, connection: Connection) -> None:
         """Rejects a server that isn't the one that the store follows."""
         known, noted = self.known, noted_database(self.remembered)
-        check_followed(connection, known.system, known.database, noted)
+        try:
+            check_followed(connection, known.system, known.database, noted)
+        except Unfit as error:
+            slot = f"SELECT pg_drop_replication_slot({literal(self.slot)})"
+            files = " ".join(map(shlex.quote, files_of(self.store)))
+            text = "Name its server by --dsn; or, if that is gone for good, as after pg_upgrade, see that"
+            where = f"its slot is gone here too ({slot}), and remove its files: rm -r {files}"
+            raise Unfit(f"{error}. {text} {where}") from None
 
     @understood("a slot")
     def drop_slot(self, connection: Connection) -> bool:

@@ -44,10 +44,14 @@ class Fitting:
                 other = server.database if server.database != known.database else "a later one"
                 text = f"the store follows the database {known.database}, and this is {other}"
                 raise Unfit(f"{text}: name that one by --dsn, or another store")
-            raise Unfit(
+            text = (
                 f"the store follows slot {known.slot} of database {known.database} of the server {known.system}, "
                 f"and not slot {slot} of {server.database} of {server.system}: name its server by --dsn, or another store"
             )
+            if is_same and slot == known.slot:
+                store = self.checkpoint.path.removesuffix(".connector")
+                text += f". If pg_upgrade made this server of that one, copy anew: `pgsub-connect drop --store {store}` tells how"
+            raise Unfit(text)
         least = confirmed if known.timeline in (0, server.timeline) else position
         if server.log_end >= least:
             return
