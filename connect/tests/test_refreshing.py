@@ -393,6 +393,26 @@ class Refreshes(Case):
             (remembered.unwanted, remembered.wanted, sorted(remembered.sent)), (set(), {}, [1])
         )
 
+    def test_what_only_a_start_accepts(self) -> None:
+        """`status` names this command as the cure of all that was found of publications."""
+        more = ("what isn't mended here stays found until the follower is started with", "--accept")
+        self.now = a_catalog(ONE, TWO)
+        self.refresh(0)
+        self.assertFalse(any(more[0] in it for it in self.said), self.said)
+        # (a table that was there for two looks, and of which nothing came)
+        before = self.remembered.catalog
+        assert before
+        before.tables[3] = THREE
+        self.remembered.save()
+        self.now = a_catalog(ONE, TWO, lsn=200)
+        self.assertEqual([it["is"] for it in self.refresh(0)], ["extra"])
+        self.assertIn(f"{' '.join(more)} publication", self.said)
+        self.assertIn("there is nothing to do", self.said[-1])
+        self.remembered.found.find("values", 50, "a became b", About(type_oid=9))
+        self.remembered.save()
+        self.assertEqual([it["is"] for it in self.refresh(0)], ["extra", "other"])
+        self.assertIn(f"{' '.join(more)} publication --accept values", self.said)
+
     def test_the_file_stays(self) -> None:
         """What is found here is found by the follower too, and noted by it alone."""
         with open(self.store + ".tables", encoding="utf-8") as file:

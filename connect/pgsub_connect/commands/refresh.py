@@ -95,6 +95,18 @@ def texts_of(remembered: Remembered, kind: str) -> list[str]:
     return [*found.texts, *([f"{kind}: and {found.more} more, see the log"] if found.more else [])]
 
 
+def kinds_left(told: list[Told], remembered: Remembered) -> list[str]:
+    """The kinds of what nothing is done about here: also of a table that left before any change of
+    it came, which has no rows that could go."""
+    texts = set[str]()
+    for it in told:
+        if it.what == OTHER or it.what == EXTRA and not remembered.described(it.oid):
+            texts.update(it.why)
+    return [
+        kind for kind in (PUBLICATION, VALUES) if texts.intersection(texts_of(remembered, kind))
+    ]
+
+
 settled = settled_store
 
 
@@ -113,6 +125,9 @@ def run(options: Options, check: Check) -> int:
     told = compared(remembered, now)
     for it in told:
         print(it.line(), flush=True)
+    if kinds := kinds_left(told, remembered):
+        accepts = " ".join(f"--accept {kind}" for kind in kinds)
+        log.info(f"what isn't mended here stays found until the follower is started with {accepts}")
     tables = {it.oid: it.table for it in told if it.what in (MISSING, CHANGED)}
     extra = {it.oid: it.table for it in told if it.what == EXTRA and remembered.described(it.oid)}
     for some in (tables, extra):
