@@ -614,7 +614,8 @@ class Segments(Case):
         self.file(0).unlink()
         self.assertEqual(self.ends(0x100), [0x200, 0x300])
         with self.assertRaisesRegex(
-            Unfit, "the feed begins at 0/100, and the commits after 0/50 aren't in it"
+            Unfit,
+            "the feed begins at 0/100, and the commits after 0/50 aren't in it. Begin anew from an export",
         ):
             self.ends(0x50)
         # (who has it open goes on)

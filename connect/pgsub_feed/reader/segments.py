@@ -155,7 +155,7 @@ class Reader:
         before = [it for it in there if it[0] <= at]
         if not before:
             text = f"{self.folder}: the feed begins at {lsn_text(there[0][0])}, and the commits after {lsn_text(at)} aren't in it"
-            raise Unfit(text)
+            raise Unfit(f"{text}. Begin anew from an export, as `pgsub-connect export` makes one")
         self.at = at
         return self.open(*before[-1])
 
