@@ -261,6 +261,8 @@ class LeavesNothing(Begun):
     def test_files_in_the_way(self) -> None:
         os.mkdir(self.feed)
         Path(self.feed, "x").touch()
+        self.refused(Unfit, "it has other files, as x", "--create", "--feed", self.feed)
+        os.rename(self.feed + "/x", self.feed + "/confirmed")
         self.refused(Unfit, "an older copy has left", "--create", "--feed", self.feed)
         Path(self.rows).write_text("mine", encoding="utf-8")
         self.refused(FileError, "has no tables that follow", "--create", "--tables", self.rows)

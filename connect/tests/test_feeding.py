@@ -3,9 +3,11 @@ it is refused."""
 
 from __future__ import annotations
 
+import contextlib
 import dataclasses
 import os
 import re
+import sqlite3
 import stat
 import subprocess
 import sys
@@ -37,9 +39,11 @@ from pgsub_connect.stream.statuses import Reached
 from pgsub_feed.errors import FileError, Unfit, UsageError
 from pgsub_feed.files import replace_file
 from pgsub_feed.known_tables import read_keys
+from pgsub_feed.reader.commits import Head
 from pgsub_feed.reader.folder import CONFIRMED, read_confirmed, segments
 from pgsub_feed.reader.folder import Noted, make_folder
 from pgsub_feed.reader.segments import Reader
+from pgsub_feed.tables.first_rows import prepare
 
 from .fake_server import Quiet
 from .feeds import ID, FeedCase, insert, table, truncate
@@ -442,6 +446,39 @@ class Refused(Quiet):
             self.feeding().check()
         os.rmdir(self.store + ".feed/readers")
         self.feeding().check()
+
+    def test_a_folder_that_is_no_feed(self) -> None:
+        """Nobody is told to remove it."""
+        os.makedirs(self.store + ".feed/readers")
+        Path(self.store + ".feed/types.new").touch()
+        Path(self.store + ".feed/diary.txt").touch()
+        with self.assertRaisesRegex(Unfit, "copy.db.feed: it has other files, as diary.txt: name"):
+            self.feeding().check()
+
+    def test_a_feed_of_another_follower(self) -> None:
+        """It may be at work there."""
+        os.makedirs(self.store + ".feed/readers")
+        for slot, text in (
+            ("other", "copy.db.feed has the feed of slot other of database shop, system 7: name"),
+            ("pgsub", "an older copy has left: .*copy.db.feed. "),
+        ):
+            head = Head(0x100, "7", "shop", slot)
+            with mock.patch.object(
+                feed_module, "read_source", lambda _: head
+            ), self.assertRaisesRegex(Unfit, text):
+                self.feeding().check()
+
+    def test_tables_of_another_follower(self) -> None:
+        rows, other = self.folder + "/rows.db", self.folder + "/other.db.feed"
+        with contextlib.closing(sqlite3.connect(rows)) as db:
+            prepare(db, other, (), False)
+        with self.assertRaisesRegex(Unfit, f"rows.db follows the feed {other}: name another file"):
+            self.feeding(tables=rows).check()
+        os.unlink(rows)
+        with contextlib.closing(sqlite3.connect(rows)) as db:
+            prepare(db, self.store + ".feed", (), False)
+        with self.assertRaisesRegex(Unfit, "an older copy has left: .*/rows.db"):
+            self.feeding(tables=rows).check()
 
     def test_what_an_interrupted_copy_has_left_is_its_own(self) -> None:
         """First rows, or an empty segment of one that was almost complete. That one can't begin

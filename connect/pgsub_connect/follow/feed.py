@@ -19,6 +19,7 @@ import contextlib
 import dataclasses
 import os
 import shlex
+import sqlite3
 import time
 from collections.abc import Callable
 
@@ -26,8 +27,10 @@ from pgsub_feed import log
 from pgsub_feed.errors import Damaged, FileError, Unfit, told_of
 from pgsub_feed.interruption import Check, never, rest
 from pgsub_feed.reader.base import remove_begun
+from pgsub_feed.reader.commits import Head
 from pgsub_feed.reader.folder import make_folder, read_confirmed, segments
 from pgsub_feed.reader.segments import Reader, read_source
+from pgsub_feed.tables.schema import read_position
 from pgsub_feed.texts import counted, lsn_text
 
 from ..copy.rows_beside import RowsBeside, Several
@@ -43,7 +46,7 @@ from ..stream.statuses import Reached
 from .feed_keeper import Keeper, TypesBeside, TypesFile
 from .first_rows import BaseRows, FirstRows
 from .process_beside import Beside, ProcessBeside, Sink, SinkSettings, TablesSettings
-from .retention import Limits
+from .retention import Limits, others_in
 
 # How long a filter that is to end is waited for, before it is looked whether the end was asked for.
 STEP = 0.5
@@ -57,6 +60,20 @@ NOT_A_FEED = "pgsub: feed 1 NotAFeed"
 
 def has_segments(folder: str) -> bool:
     return os.path.isdir(folder) and bool(segments(folder))
+
+
+def head_of(folder: str) -> Head | None:
+    """What a feed is a feed of, None where there is no segment or it can't be read."""
+    with contextlib.suppress(OSError, Damaged, FileError, Unfit):
+        return read_source(folder)
+    return None
+
+
+def feed_of(tables: str) -> str:
+    """The feed that a file of tables follows, "" where that can't be read."""
+    with contextlib.suppress(OSError, sqlite3.Error, TypeError, ValueError):
+        return read_position(tables)[1]
+    return ""
 
 
 @dataclasses.dataclass(frozen=True)
@@ -150,10 +167,28 @@ class Feeding:
         tables = self.settings.tables.path if self.settings.tables else ""
         left = [self.folder] if has_feed else []
         if left := left + [tables] if os.path.lexists(tables) else left:
+            self.check_own(left, tables)
             raise Unfit(
                 f"{self.settings.store} begins anew, and an older copy has left: {', '.join(left)}. Once nobody reads that any more,"
                 f" rm -r {' '.join(map(shlex.quote, left))}; or name another feed by --feed, and other tables by --tables"
             )
+
+    def check_own(self, left: list[str], tables: str) -> None:
+        """Rejects what is there and is none of an older copy of this store, as another follower may
+        be at work there: nobody is to remove that."""
+        if self.folder in left:
+            if others := others_in(self.folder):
+                raise Unfit(
+                    f"--feed {self.folder}: it has other files, as {others[0]}: name an empty folder"
+                )
+            head = head_of(self.folder)
+            if head and head.slot != self.subscription.slot:
+                raise Unfit(
+                    f"--feed {self.folder} has the feed of {head.text()}: name another folder"
+                )
+        feed = feed_of(tables) if tables in left else ""
+        if feed and os.path.realpath(feed) != os.path.realpath(self.folder):
+            raise Unfit(f"--tables {tables} follows the feed {feed}: name another file")
 
     def make_folder(self) -> None:
         with told_of(f"--feed {self.settings.folder}"):

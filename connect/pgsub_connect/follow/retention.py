@@ -17,6 +17,7 @@ from pgsub_feed.column_types import TYPES
 from pgsub_feed.errors import Failure, FileError, told_of
 from pgsub_feed.files import NEW, remove
 from pgsub_feed.known_tables import KEYS
+from pgsub_feed.reader.base import FOLDER as BASE
 from pgsub_feed.reader.base import base_bytes, base_of_feed, has_base, remove_base, remove_begun
 from pgsub_feed.reader.folder import CONFIRMED, READERS, segments
 from pgsub_feed.texts import parse_lsn
@@ -117,6 +118,13 @@ def is_behind(folder: str) -> bool:
     with contextlib.suppress(Failure):
         return base_of_feed(folder, [base for base, _ in segments(folder)], None) is None
     return False
+
+
+def others_in(folder: str) -> list[str]:
+    """The names in a folder that no feed has."""
+    own = {READERS, BASE, CONFIRMED, KEYS, TYPES, *(name for _, name in segments(folder))}
+    # (files in the making have more behind the name)
+    return sorted(it for it in os.listdir(folder) if it.partition(".")[0] not in own)
 
 
 def remove_feed(folder: str) -> None:
