@@ -138,7 +138,18 @@ class Files(Quiet):
         reporter.write()
         self.assertEqual(sorted(os.listdir(self.folder)), ["status", "status.prom"])
         with open(self.path + ".prom", encoding="utf-8") as file:
-            self.assertIn('store="copy?.db"', file.read())
+            self.assertIn(f'store="{os.getcwd()}/copy?.db"', file.read())
+
+    def test_stores_of_one_name_are_told_apart(self) -> None:
+        """A collector that reads two files with one sample rejects both."""
+        samples, metrics = list[set[str]](), self.path + ".prom"
+        for folder in ("/one", "/two"):
+            with mock.patch("os.getcwd", lambda folder=folder: folder):
+                Reporter(ReportSettings(store="copy.db", metrics_file=metrics), Progress()).write()
+            with open(metrics, encoding="utf-8") as file:
+                lines = [it for it in file if not it.startswith("#")]
+            samples.append({it.rpartition(" ")[0] for it in lines})
+        self.assertEqual(samples[0] & samples[1], set())
 
     def test_the_heartbeat_is_that_of_the_main_loop(self) -> None:
         progress = Progress()

@@ -200,7 +200,8 @@ class Reporter(threading.Thread):
             fields = status_fields(self.progress, self.rate(), now, store)
             self.status.write(json.dumps(fields) + "\n")
         if self.metrics:
-            labels = {"slot": self.settings.slot, "store": store}
+            # (files of followers in several folders are collected side by side)
+            labels = {"slot": self.settings.slot, "store": os.path.abspath(store)}
             self.metrics.write(metrics_text(self.progress, now, labels))
 
 
