@@ -223,6 +223,15 @@ class Metrics(unittest.TestCase):
         self.assertNotIn("pgsub_last_commit", text)
         self.assertTrue(text.endswith("\n"))
 
+    def test_sinks(self) -> None:
+        progress = Progress()
+        self.assertNotIn("pgsub_sink_failed", metrics_text(progress, 0.0, {}))
+        for where, wrong in (("a", "begins"), ("b", ""), ("c", "ended: no such user")):
+            progress.feed.note_sink(where, wrong)
+        text = metrics_text(progress, 0.0, {"slot": "s"})
+        for where, failed in (("a", 0), ("b", 0), ("c", 1)):
+            self.assertIn(f'\npgsub_sink_failed{{slot="s",sink="{where}"}} {failed}\n', text)
+
     def test_by_promtool(self) -> None:
         """Debian's own tool has nothing to say against them."""
         for text, status in ((self.text('a\\b"c\nd'), 0), (self.text() + "x{} 1 2 3\n", 1)):

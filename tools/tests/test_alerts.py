@@ -25,6 +25,8 @@ CHANGES = (
     ("for: 15m", "for: 10m"),
     ("tables_failed == 1", "tables_failed == 0"),
     ("spool_failed == 1", "spool_failed == 0"),
+    ("tables_aside > 0", "tables_aside > 2"),
+    ("sink_failed == 1", "sink_failed == 0"),
     ("> 60", "> 700"),
 )
 
@@ -37,7 +39,7 @@ class Case(unittest.TestCase):
     def test_rules(self) -> None:
         checked = promtool("check", "rules", RULES)
         self.assertEqual(checked.returncode, 0, checked.stderr)
-        self.assertIn("8 rules found", checked.stdout)
+        self.assertIn("10 rules found", checked.stdout)
         tried = promtool("test", "rules", TRIED)
         self.assertEqual(tried.returncode, 0, tried.stdout + tried.stderr)
 
@@ -57,7 +59,7 @@ class Case(unittest.TestCase):
     def test_their_metrics_are_written(self) -> None:
         sources = "".join(it.read_text() for it in (TOP / "connect/pgsub_connect").rglob("*.py"))
         named = set(METRIC.findall("\n".join(re.findall(r"expr: (.*)", RULES.read_text()))))
-        self.assertEqual(len(named), 9)
+        self.assertEqual(len(named), 11)
         self.assertEqual({it for it in named if f'"{it}"' not in sources}, set())
 
 

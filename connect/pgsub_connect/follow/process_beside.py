@@ -32,6 +32,7 @@ from pgsub_feed.tables.values import BOTH
 from pgsub_feed.texts import lsn_text, parse_lsn
 
 from ..status.progress import Progress
+from ..status.state import BEGINS
 from ..stream.filter import KEPT
 from .retention import read_lsn
 
@@ -334,7 +335,7 @@ class Sink(ProcessBeside):
         self.note_started()
 
     def note_started(self) -> None:
-        self.feed.note_sink(self.name, "begins")
+        self.feed.note_sink(self.name, BEGINS)
 
     def note_said(self, level: str, text: str) -> None:
         """Shows that it waits, or why it ends, until it is well again."""

@@ -9,6 +9,8 @@ from pgsub_feed.log import progress_text
 from pgsub_feed.texts import counted, shortened
 from pgsub_feed.version import OWN, VERSION
 
+from .state import BEGINS
+
 # Of which kind the fields are that are looked at.
 KINDS: dict[str, Callable[[Any], object]] = {
     **dict.fromkeys(("found", "tables_aside", "readers", "sinks", "adding"), json_texts.object_of),
@@ -152,8 +154,7 @@ def of_tables(status: dict[str, Any]) -> Iterator[Fault]:
 def of_readers(status: dict[str, Any]) -> Iterator[Fault]:
     """Of those that read the feed, and of the sinks that the follower runs."""
     for name, wrong in sorted((status.get("sinks") or {}).items()):
-        # (each begins with that)
-        if wrong and wrong != "begins":
+        if wrong and wrong != BEGINS:
             yield Fault(f"the sink {name} doesn't write", f"{wrong}; its log tells more")
     for name, said in sorted((status.get("readers") or {}).items()):
         reader = json_texts.object_of(said)

@@ -7,7 +7,7 @@ from pgsub_feed.version import VERSION
 
 from ..server.slot import Slot
 from .progress import STATES, Progress
-from .state import KINDS, Counted, StreamCounters
+from .state import BEGINS, KINDS, Counted, StreamCounters
 
 GAUGE, COUNTER = "gauge", "counter"
 # What the server says of a slot's log.
@@ -54,6 +54,8 @@ def metrics(progress: Progress, now: float) -> Iterator[Metric]:
         yield from (gauge(*it) for it in of_missing(progress.findings.counted))
     if progress.feed.bytes is not None:
         yield from feed_metrics(progress)
+    if progress.feed.sinks:
+        yield sink_metric(progress.feed.sinks)
     yield from (gauge(*it) for it in of_totals(progress))
 
 
@@ -119,6 +121,14 @@ def feed_metrics(progress: Progress) -> Iterator[Metric]:
     yield gauge("pgsub_tables_failed", text, int(bool(feed.tables_error)))
     text = "How many of them are set aside until their rows come anew."
     yield gauge("pgsub_tables_aside", text, len(feed.tables_aside))
+
+
+def sink_metric(sinks: Mapping[str, str]) -> Metric:
+    text = "Whether a sink that the follower runs doesn't write."
+    samples: list[Sample] = [
+        ({"sink": name}, int(wrong not in ("", BEGINS))) for name, wrong in sorted(sinks.items())
+    ]
+    return Metric("pgsub_sink_failed", GAUGE, text, samples)
 
 
 def of_totals(it: Progress) -> Told:

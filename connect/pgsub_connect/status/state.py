@@ -236,6 +236,10 @@ class SpoolState:
             return None
 
 
+# What a sink is at that has yet to say whether it is well.
+BEGINS = "begins"
+
+
 class FeedState:
     """Nothing of it is known where there is no feed."""
 
