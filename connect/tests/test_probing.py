@@ -104,6 +104,26 @@ class Probes(unittest.TestCase):
             self.assertEqual(found, code, state)
             self.assertEqual("last error: a\\x1b[2J b" in text, state != "copying")
 
+    def test_no_session(self) -> None:
+        """It waits for a server that doesn't let it in any more, say, while its slot keeps the log."""
+        now, self.progress.last_error = time.time(), "FATAL:  password authentication failed"
+        for state, at, told in (
+            ("connecting", now - 90, ""),
+            ("opening the store", now - 80, ""),
+            ("connecting", now, ""),
+            ("waiting to connect again", now + 30, ""),
+            ("connecting", now + 61, "no session with the server for 61 s (connecting, "),
+            ("following", now + 62, ""),
+            ("waiting to connect again", now + 63, ""),
+            ("stopped", now + 200, "the follower has ended ("),
+        ):
+            with mock.patch("time.time", lambda at=at: at):
+                self.progress.beat()
+                self.progress.enter(state)
+                code, text = self.probe()
+            self.assertEqual((code, text.startswith(told or "ok (")), (int(bool(told)), True), text)
+            self.assertEqual("  mend what its last error says; then it" in text, "session" in told)
+
     def fails(self, *told: str) -> None:
         """The probe fails, and tells these."""
         code, text = self.probe()

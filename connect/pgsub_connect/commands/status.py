@@ -29,9 +29,10 @@ tell how a follower is, as a probe does, or on a screen
 
 It prints one line, and one for each thing that isn't well, with what mends it. Without --store and --status-file it looks for stores in
 this folder, and for the followers of the service. The exit status is 0 where all is well; 1 where the follower has ended or failed, shows
-no sign of life, has lost its slot, loses its filter again and again, can't keep open transactions on the disk, is further behind than
---max-lag (or it isn't known how far), has found what may have made the copy wrong, has set a table of `rows.db` aside or has no such file
-yet, or where a reader of the feed stands still; 2 for a usage error; 3 where there is no such file, or it isn't a status file.
+no sign of life, is without a session for a minute, has lost its slot, loses its filter again and again, can't keep open transactions on
+the disk, is further behind than --max-lag (or it isn't known how far), has found what may have made the copy wrong, has set a table of
+`rows.db` aside or has no such file yet, or where a reader of the feed stands still; 2 for a usage error; 3 where there is no such file, or
+it isn't a status file.
 """
 # (the exit status is in what it is about)
 ENDS = None

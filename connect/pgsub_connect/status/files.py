@@ -25,12 +25,13 @@ def status_fields(
     progress: Progress, rate: float, now: float, store: str = ""
 ) -> dict[str, object]:
     """The object at this moment; without what isn't known."""
-    found = progress.findings
+    found, since = progress.findings, progress.unconnected
     fields: dict[str, object] = {
         "state": progress.state,
         "heartbeat": time_text(progress.heartbeat),
         "updated": time_text(now),
         "store": os.path.abspath(store) if store else None,
+        "unconnected_seconds": None if since is None else round(max(now - since, 0.0)),
         **shown_stream(progress, rate, now),
         **shown_copy(progress, rate),
         "last_error": progress.last_error,

@@ -17,7 +17,9 @@ KINDS: dict[str, Callable[[Any], object]] = {
     **dict.fromkeys(
         ("lag_bytes", "filter_losses", "copied_rows", "spool_bytes"), json_texts.whole_of
     ),
-    **dict.fromkeys(("lag_seconds", "changes_per_second"), json_texts.number_of),
+    **dict.fromkeys(
+        ("lag_seconds", "changes_per_second", "unconnected_seconds"), json_texts.number_of
+    ),
     **dict.fromkeys(
         (
             *("position", "wal_status", "tables_error", "tables_missing", "last_error", "store"),
@@ -29,7 +31,7 @@ KINDS: dict[str, Callable[[Any], object]] = {
 # States in which nothing follows any more.
 ENDED = ("stopped", "failed")
 # How often the filter may be lost within the time that the status file counts, and for how many
-# seconds a reader may stand still while it lacks commits.
+# seconds a reader may stand still while it lacks commits, or there may be no session.
 LOSSES, STILL = 2, 60.0
 # What mends what was found of a kind, and of a table whose rows are to come.
 ADDED = "its rows are being copied: wait for that"
@@ -82,6 +84,11 @@ def of_life(status: dict[str, Any], age: float, most_age: float) -> Iterator[Fau
         yield Fault("the follower has failed", f"mend what its last error says; then {again}")
     elif age > most_age:
         yield Fault(f"no sign of life for {age:.0f} s", f"its log tells why; {again}")
+    elif (since := status.get("unconnected_seconds") or 0) > STILL:
+        why = "mend what its last error says" if status.get("last_error") else "its log tells why"
+        yield Fault(
+            f"no session with the server for {since} s", f"{why}; then it goes on by itself"
+        )
 
 
 def of_lag(status: dict[str, Any], limits: Iterable[Limit]) -> Iterator[Fault]:

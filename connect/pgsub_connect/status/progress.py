@@ -58,6 +58,8 @@ STATES = (
     *("starting", "copying", "opening the store", "connecting", "following", "copying the store"),
     *("adding a table", "repairing rows", "waiting to connect again", *ENDING),
 )
+# States without a session.
+UNCONNECTED = "connecting", "waiting to connect again"
 # For how many seconds a loss of the filter is counted, and how many of them.
 LATELY, MOST = 600.0, 1000
 
@@ -71,6 +73,8 @@ class Progress:
         # set when the state changes: whoever shows it clears that
         self.has_entered = threading.Event()
         self.heartbeat = time.time()
+        # since when a session is tried for, in seconds since 1970, None where it isn't
+        self.unconnected: float | None = None
         self.last_error: str | None = None
         # how often the filter was lost, and when lately
         self.restarts = 0
@@ -98,6 +102,9 @@ class Progress:
 
     def enter(self, state: str) -> None:
         self.state = state
+        # (to open a large store takes its time)
+        since = time.time() if self.unconnected is None else self.unconnected
+        self.unconnected = since if state in UNCONNECTED else None
         self.has_entered.set()
         if state in ENDING:
             self.notifier.stopping(self.line())
