@@ -223,6 +223,19 @@ class Versions(Case):
             made.assert_not_called()
         self.assertEqual(self.brain.told("START_REPLICATION"), [])
 
+    def test_a_slot_that_stays_is_told_with_its_end(self) -> None:
+        """The server keeps its log for it; one that was there before may be somebody else's."""
+        words = ["record", "--dsn", self.server.dsn(), "--create", "--record", self.path]
+        options = options_of([*words, "--seconds", "0.01", "--slot", "rec"])
+        for is_made in (True, False):
+            self.said.clear()
+            with mock.patch.object(record, "create_slot", return_value=is_made), mock.patch.object(
+                record, "stop_by_signals"
+            ):
+                self.assertEqual(record.run(options, never), 0)
+            told = [it for it in self.said if "pg_drop_replication_slot('rec')" in it]
+            self.assertEqual(len(told), int(is_made), self.said)
+
     def test_short_payloads_are_recorded(self) -> None:
         """What a server sends is kept, whatever it is."""
         self.server.to_send = [b"w", b"k", b"wx" * 12, b"w" + bytes(24) + b"C", b"?", *PAIR]

@@ -3,9 +3,11 @@
 import argparse
 import dataclasses
 
+from pgsub_feed import log
 from pgsub_feed.interruption import Check
 from pgsub_feed.options import add_fields, file, flag, lsn, option
 from pgsub_feed.program import stop_by_signals
+from pgsub_feed.texts import literal
 
 from ..copy.slots import create_slot
 from ..record import RecordSettings, Recorder, Recording
@@ -95,15 +97,19 @@ def run(options: Options, _: Check) -> int:
         Recording(options.record, options.append, options.bytes, options.mode, options.overwrite),
     )
     stop_by_signals(recorder)
-    maker = Maker(subscription, wanted, recorder.check_stop)
+    maker, is_made = Maker(subscription, wanted, recorder.check_stop), False
     try:
         recorder.connect()
         if options.create == "temporary":
             maker.make()
         elif options.create:
-            create_slot(maker, options.failover)
+            is_made = create_slot(maker, options.failover)
         recorder.run()
     finally:
         maker.take_back()
         recorder.close()
+        if is_made:
+            drop = f"SELECT pg_drop_replication_slot({literal(subscription.slot)})"
+            text = f"the slot {subscription.slot} stays for another recording, and the server keeps its log for it until `{drop}`"
+            log.info(text)
     return 0

@@ -48,9 +48,9 @@ def drop_slot(connection: Connection, slot: str) -> None:
 
 def create_slot(
     maker: Maker, failover: bool, remembered: Remembered | None = None, messages: bool = False
-) -> None:
+) -> bool:
     """Makes publications and slot, without rows, where they aren't there, and remembers what is
-    published from then on.
+    published from then on. Returns whether the slot was made.
 
     Where the maker's `check` raises meanwhile, none of them is made.
     """
@@ -80,6 +80,7 @@ def create_slot(
         raise
     finally:
         connection.close()
+    return is_made
 
 
 def has_slot(
