@@ -549,7 +549,8 @@ class Files(Case):
     def test_anything_else_is_kept(self) -> None:
         with open(self.into, "w") as file:
             file.write("mine")
-        with self.assertRaisesRegex(FileError, "is there and isn't an export"):
+        # (it may be tables that follow a feed: nobody is told to remove them)
+        with self.assertRaisesRegex(FileError, "is there and isn't an export: name another file"):
             export_store(self.settings(), never)
         os.unlink(self.into)
         sqlite3.connect(self.into).execute("CREATE TABLE t (a)").connection.close()

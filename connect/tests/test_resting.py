@@ -415,7 +415,7 @@ class Taken(Case):
             self.assertEqual(
                 told,
                 [
-                    f"error: --snapshot {path} is there and isn't an earlier copy of a store: remove it, or name another file"
+                    f"error: --snapshot {path} is there and isn't an earlier copy of a store: name another file"
                 ],
             )
             self.assertFalse(os.path.exists(new + ".connector"))

@@ -236,7 +236,7 @@ class TablesSettings:
                 raise FileError(f"--tables {path}: there is no folder {folder}")
         elif not (os.path.isfile(path) and is_tables(path)):
             text = f"{path} is there and has no tables that follow a feed"
-            raise FileError(f"{text}: remove it, or name another file by --tables")
+            raise FileError(f"{text}: name another file by --tables")
 
     def words(self) -> list[str]:
         """How it is started."""

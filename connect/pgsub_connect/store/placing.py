@@ -73,5 +73,5 @@ def check_into(
     with told_of(into):
         is_good = os.path.isfile(into) and is_earlier(into)
     if not is_good:
-        text = f"{option} {into} is there and isn't {what}: remove it, or name another file"
-        raise FileError(text)
+        # (whose it is isn't known)
+        raise FileError(f"{option} {into} is there and isn't {what}: name another file")

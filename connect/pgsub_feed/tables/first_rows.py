@@ -41,8 +41,8 @@ def check_file(path: str) -> None:
     if not os.path.isdir(folder):
         raise FileError(f"--into {path}: there is no folder {folder}")
     if os.path.lexists(path) and not (os.path.isfile(path) and is_tables(path)):
-        text = f"{path} is there and has no tables that follow a feed"
-        raise FileError(f"{text}: remove it, or name another file")
+        text = f"{path} is there and has no tables that follow a feed: name another file"
+        raise FileError(text)
 
 
 @contextlib.contextmanager
