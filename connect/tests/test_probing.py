@@ -317,6 +317,22 @@ class Probes(unittest.TestCase):
                 self.assertEqual(self.run_it(), (2, ""))
             self.assertIn("name one by --store", said.getvalue())
 
+    def test_a_service_that_ended(self) -> None:
+        """It is told of, also where others are well, until its store is dropped."""
+        folder = os.path.dirname(self.path)
+        for name, state in (("one", "following"), ("two", "failed")):
+            self.progress.state = state
+            path = f"{folder}/{name}.json"
+            with open(path, "w", encoding="utf-8") as file:
+                json.dump(status_fields(self.progress, 0.0, time.time(), f"{folder}/{name}"), file)
+            os.symlink(path, f"{folder}/{name}{STATUS}")
+        with mock.patch.object(command, "SERVICE", folder + "/*.json"):
+            code, text = self.run_it()
+            self.assertEqual((code, "the follower has failed" in text), (1, True), text)
+            os.unlink(f"{folder}/two{STATUS}")
+            code, text = self.run_it()
+            self.assertEqual((code, text.startswith("ok (following")), (0, True), text)
+
     def watched(self, *keys: bytes, **environment: str) -> str:
         """What `--watch` shows on a terminal until these keys are pressed."""
         self.progress.copy.begin_part("public.t")

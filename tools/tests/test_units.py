@@ -76,6 +76,7 @@ class Case(unittest.TestCase):
             "RestartForceExitStatus": "7",
             "Restart": "on-abnormal",
             "OOMPolicy": "continue",
+            "RuntimeDirectoryPreserve": "yes",
             "SuccessExitStatus": "9",
             "User": "pgsub-%i",
         }

@@ -92,9 +92,23 @@ def files(options: Options) -> list[str]:
     if options.status_file or options.store:
         return [options.status_file or options.store + STATUS]
     here = [it.removesuffix(".connector") + STATUS for it in glob.glob("*.connector")]
-    if found := sorted(here or glob.glob(SERVICE)):
+    if found := sorted(here or [it for it in glob.glob(SERVICE) if not is_dropped(it)]):
         return found
     raise UsageError("there is no store in this folder: name one by --store")
+
+
+def is_dropped(path: str) -> bool:
+    """Whether a status file is what a follower has left that has ended, and whose store was
+    dropped: the store's own name for it is gone then."""
+    # (what else is wrong with it is told by who looks at it)
+    with contextlib.suppress(OSError, ValueError, OverflowError, LookupError, TypeError):
+        status = read(path)
+        if status["state"] in ENDED:
+            try:
+                os.lstat(status["store"] + STATUS)
+            except FileNotFoundError:
+                return True
+    return False
 
 
 def read(path: str) -> dict[str, Any]:
