@@ -14,13 +14,14 @@ from .pipe.following import SCHEME, Remote
 from .reader import commits
 from .reader.blocks import LONG, Blocks, blocks_of
 from .reader.commits import Message
-from .reader.folder import noted_of
+from .reader.folder import READERS, noted_of
 from .reader.following import Chosen
 from .reader.polling import Poll
 from .reader.segments import Reader
 from .reader.whole import Whole
 from .relation import Relation
 from .sinks.first_rows import exported
+from .texts import is_plain_name
 
 EPOCH = datetime.datetime(1970, 1, 1, tzinfo=datetime.timezone.utc)
 
@@ -58,13 +59,26 @@ def read(
     Damaged says that the feed can't be read. Without `follow` a feed without segments has none.
     """
     feed = os.fspath(folder)
+    check_asked(feed, tables, reader, base)
     is_here = not feed.startswith(SCHEME)
     build = Build(tables, FeedTypes(feed, check) if is_here else KnownTypes())
     if is_here:
         return read_here(feed, after, follow, build, base, reader, mode, check)
-    if base:
-        raise UsageError(f"{feed}: its host has its base")
     return Remote(feed, after, follow, reader, check, build, build.types).commits()
+
+
+def check_asked(
+    feed: str, tables: Iterable[str], reader: str | None, base: str | os.PathLike[str] | None
+) -> None:
+    """Rejects a name by which a reader's file keeps nothing, and what else can't be meant."""
+    if isinstance(tables, str):
+        # (each of its letters would be a name)
+        raise UsageError(f"tables={tables!r}: name them in a list, as [{tables!r}]")
+    if reader is not None and not is_plain_name(reader):
+        # (another file would be written, or one that keeps no segment)
+        raise UsageError(f"reader={reader!r} is no name for a file in {feed}/{READERS}")
+    if base and feed.startswith(SCHEME):
+        raise UsageError(f"{feed}: its host has its base")
 
 
 def read_here(

@@ -12,14 +12,13 @@ its place. `value` is how the help calls the value.
 
 import argparse
 import dataclasses
-import os
 import re
 import sys
 from collections.abc import Callable, Iterable, Sequence
 from typing import Any
 
 from . import log
-from .texts import parse_lsn
+from .texts import is_plain_name, parse_lsn
 from .version import version
 
 KEY = "option"
@@ -136,8 +135,7 @@ def size(text: str) -> int:
 
 
 def plain_name(text: str) -> str:
-    # (what ends so is a file that is being written)
-    if not text or text.startswith(".") or text.endswith(".new") or os.sep in text:
+    if not is_plain_name(text):
         raise no(text, "name for a file")
     return text
 

@@ -68,6 +68,12 @@ def is_utf_8(text: str) -> bool:
     return True
 
 
+def is_plain_name(text: str) -> bool:
+    """Whether a file may have this name: one that isn't hidden, nor being written (`.new`)."""
+    is_other = text.startswith(".") or text.endswith(".new")
+    return not (not text or is_other or "/" in text or "\0" in text)
+
+
 def shortened(text: str) -> str:
     """A text of somebody else as it is shown: its beginning where it is long."""
     return text if len(text) <= LONGEST else f"{text[:LONGEST]}.. ({len(text)} characters)"

@@ -32,6 +32,7 @@ from pgsub_feed import (
     Update,
     python_value,
 )
+from pgsub_feed.errors import UsageError
 
 from .feeds import STOCK, FeedCase, delete, insert, table, truncate, update
 
@@ -229,6 +230,20 @@ class Reads(FeedCase):
         with self.assertRaises(StopAsked):
             next(pgsub_feed.read(self.path, 0, follow=True, reader="mine", check=self.stop))
         self.assertEqual((self.path / "readers/mine").read_text(), "0/0\n")
+
+    def test_names_that_keep_nothing(self) -> None:
+        """What is in such files isn't looked at where old segments are removed."""
+        before = sorted(self.path.rglob("*"))
+        for name in ("", ".mine", "mine.new", "../mine", "my/mine", "..", "a\0b"):
+            for feed in (str(self.path), f"ssh://host{self.path}"):
+                with self.subTest(name, feed=feed), self.assertRaises(UsageError) as raised:
+                    pgsub_feed.read(feed, 0, reader=name)
+                self.assertIn("is no name for a file", str(raised.exception))
+        self.assertEqual(sorted(self.path.rglob("*")), before)
+
+    def test_a_text_in_place_of_names(self) -> None:
+        with self.assertRaisesRegex(UsageError, r"tables='stock': .* as \['stock'\]"):
+            self.read(0, tables="stock")
 
     @staticmethod
     def stop() -> None:
