@@ -62,10 +62,18 @@ class FeedCase(unittest.TestCase):
         patched.start()
         self.addCleanup(patched.stop)
 
-    def kept_dict(self) -> tuple[int, dict[Any, Any]]:
-        """The LSN and the rows that an example of the documents has in its file."""
+    def kept_counted(self) -> tuple[int, dict[Any, Any]]:
+        """The LSN and the rows that an example of the documents has in its file, by OID and key,
+        each with how often it is there."""
         path = self.folder / "dict"
-        found: tuple[int, dict[Any, Any]] = (0, {})
-        if path.exists():
-            found = pickle.loads(path.read_bytes())
-        return found
+        if not path.exists():
+            return 0, {}
+        at, tables = pickle.loads(path.read_bytes())
+        rows = ((oid, key, it) for oid, (_, held) in tables.items() for key, it in held.items())
+        return at, {(oid, key): it for oid, key, it in rows}
+
+    def kept_dict(self) -> tuple[int, dict[Any, Any]]:
+        """The same of rows that are there once."""
+        at, found = self.kept_counted()
+        self.assertTrue(all(copies == 1 for _, copies in found.values()))
+        return at, {key: row for key, (row, _) in found.items()}

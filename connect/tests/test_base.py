@@ -687,7 +687,7 @@ class Killed(BaseCase):
             child.kill()
             child.wait()
         expected = {
-            (oid, (key,)): {"id": int(key), "name": value}
+            (oid, (key,)): {"id": key, "name": value}
             for oid, some in rows.items()
             for key, value in some.items()
         }

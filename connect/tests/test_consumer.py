@@ -17,7 +17,7 @@ from typing import Any
 from unittest import mock
 
 import feed_replay
-from feed_text import EPOCH, UNSENT, About, Line
+from feed_text import EPOCH, UNSENT, About, Column, Line
 
 import pgsub_feed
 from pgsub_feed import Column as Published
@@ -34,7 +34,7 @@ from pgsub_feed import (
 )
 from pgsub_feed.errors import UsageError
 
-from .feeds import STOCK, FeedCase, delete, insert, table, truncate, update
+from .feeds import ID, NAME, STOCK, FeedCase, delete, insert, table, truncate, update
 
 CONNECT = Path(__file__).resolve().parent.parent
 EXAMPLE = CONNECT.parent / "examples/keep_dict.py"
@@ -363,12 +363,36 @@ class Example(FeedCase):
         self.assertEqual((lsn, found), replayed(self.path))
         self.assertGreater(len(found), 10)
 
+    def test_definitions_that_change(self) -> None:
+        """Rows are found by other columns from then on, or by all, and equal ones are several."""
+        full, bag = table(letter="f"), table(3, "bag", letter="f")
+        wider = table(columns=(ID, Column("more", 23), NAME), letter="f")
+        self.feed.commit(0x100, [insert(it, "a") for it in "1234"])
+        self.feed.commit(
+            0x200, [update(["1", "a"], ["1", "b"], of=full), delete("2", "a", of=full)]
+        )
+        self.feed.commit(0x300, [delete("3", None, "a", of=wider), update(["1", "b"], ["5", "b"])])
+        self.feed.commit(0x400, [insert("1", "x", of=bag)] * 3)
+        self.feed.commit(0x500, [delete("1", "x", of=bag)])
+        child, until = self.start(), time.monotonic() + 60
+        while self.kept_counted()[0] < self.feed.at and time.monotonic() < until:
+            time.sleep(0.02)
+        child.kill()
+        child.wait()
+        stock = {it: (1, (it,)) for it in "45"}
+        expected = {
+            stock["4"]: ({"id": "4", "name": "a"}, 1),
+            stock["5"]: ({"id": "5", "name": "b"}, 1),
+            (3, ("1", "x")): ({"id": "1", "name": "x"}, 2),
+        }
+        self.assertEqual(self.kept_counted(), (0x500, expected))
+
 
 def replayed(feed: Path) -> tuple[int, dict[Any, Any]]:
     """What the example is to have of a feed."""
     there = feed_replay.replay(feed)
     return there.at, {
-        (oid, (key,)): {"id": int(str(key)), "name": name}
+        (oid, (key,)): {"id": key, "name": name}
         for oid, counted in there.rows.items()
         for (key, name), copies in counted.items()
         if copies
