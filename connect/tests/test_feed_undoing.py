@@ -241,13 +241,30 @@ class Refused(Undoing):
 
     def test_lsns(self) -> None:
         self.feed.commit(0x200, [])
+        self.feed.confirm(0x300)
         for begin, text in (
             ("0/200", "no commit ends up to 0/300 after 0/200"),
-            ("0/150", "no commit ends at 0/150"),
+            ("0/150", "no commit ends at 0/150: take back from 0/100 or 0/200 on$"),
         ):
             with logged() as told:
                 self.print("--undo", begin, "0/300", status=UNFIT)
             self.assertRegex(told[0], text)
+
+    def test_commits_that_are_still_to_come(self) -> None:
+        """What these do, up to the LSN, would stay."""
+        self.feed.commit(0x200, [insert("1", "a")])
+        for confirmed in (0, 0x100, 0x280):
+            self.feed.confirm(confirmed)
+            with self.subTest(confirmed), logged() as told:
+                self.assertEqual(self.print("--undo", "0/100", "0/300", status=PASSING), "")
+                text = f"the feed has reached {lsn_text(max(0x200, confirmed))}, and 0/300 not yet$"
+                self.assertRegex(told[0], text)
+        self.assertEqual(len(ROW.findall(self.print("--undo", "0/100", "0/200"))), 1)
+        self.feed.confirm(0x300)
+        self.assertEqual(len(ROW.findall(self.print("--undo", "0/100", "0/300"))), 1)
+        self.feed.confirm(0x200)
+        self.feed.commit(0x400, [insert("2", "a")])
+        self.assertEqual(len(ROW.findall(self.print("--undo", "0/100", "0/300"))), 1)
 
     def test_binary_values(self) -> None:
         self.check_refused(

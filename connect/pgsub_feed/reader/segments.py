@@ -42,6 +42,17 @@ def read_source(folder: str) -> Head | None:
     return None
 
 
+class Between(Unfit):
+    """The LSN of a reader lies within a commit. `begin` and `end`: that commit's."""
+
+    def __init__(self, folder: str, at: int, commit: Commit) -> None:
+        self.begin, self.end = lsn_text(commit.prev), commit.text()
+        super().__init__(
+            f"{folder}: no commit ends at {lsn_text(at)}: the next one goes from {self.begin} to {self.end}, so"
+            " what was read before isn't what the feed has. Begin anew from an export"
+        )
+
+
 class Reader:
     """Reads the commits of a feed above an LSN; None: those of all segments that are there."""
 
@@ -131,10 +142,7 @@ class Reader:
             raise Damaged(ORDER, segment.path, self.offset, text)
         at = self.last if self.at is None else self.at
         if commit.end > at and commit.prev != at:
-            raise Unfit(
-                f"{self.folder}: no commit ends at {lsn_text(at)}: the next one goes from {lsn_text(commit.prev)} to {commit.text()}, so"
-                " what was read before isn't what the feed has. Begin anew from an export"
-            )
+            raise Between(self.folder, at, commit)
         body = self.offset + COMMIT_SIZE
         # (those below the LSN are passed over, whatever they have)
         kept = segment.check(commit, body) if commit.end > at else []

@@ -11,12 +11,13 @@ import sqlite3
 from collections.abc import Callable, Iterable, Iterator
 
 from .. import log
-from ..errors import Unfit
+from ..errors import Passing, Unfit
 from ..interruption import Check
 from ..reader.commits import XID, Cell, Change, Commit, Missed
+from ..reader.folder import read_confirmed
 from ..reader.following import Chosen
 from ..reader.polling import Poll
-from ..reader.segments import Reader
+from ..reader.segments import Between, Reader
 from ..tables.schema import full_name
 from ..tables.sqlite_files import failed
 from ..texts import PRINTING, identifier, literal, lsn_text
@@ -174,15 +175,26 @@ def undo(
 
 
 def collect(undoing: Undoing, reader: Reader, check: Check) -> None:
-    """Reads the commits. Raises where they aren't there."""
-    begin, end, is_there = undoing.begin, undoing.end, False
-    for commit in Poll(reader, False, check).commits():
-        if commit.end > end:
-            break
-        check()
-        is_there = True
-        undoing.take(reader, commit)
-    if not is_there:
+    """Reads the commits. Raises where they aren't there, or where others may still come."""
+    begin, end, at = undoing.begin, undoing.end, undoing.begin
+    # (before the commits are looked at: all up to there are among these)
+    confirmed = read_confirmed(reader.folder) or 0
+    try:
+        for commit in Poll(reader, False, check).commits():
+            if commit.end > end:
+                confirmed = end
+                break
+            check()
+            at = commit.end
+            undoing.take(reader, commit)
+    except Between as it:
+        text = f"no commit ends at {lsn_text(begin)}: take back from {it.begin} or {it.end} on"
+        raise Unfit(f"{reader.folder}: {text}") from None
+    if at < end and confirmed < end:
+        # (what they have done would stay)
+        text = f"the feed has reached {lsn_text(max(at, confirmed))}, and {lsn_text(end)} not yet"
+        raise Passing(f"{reader.folder}: {text}")
+    if at == begin:
         text = f"no commit ends up to {lsn_text(end)} after {lsn_text(begin)}"
         raise Unfit(f"{reader.folder}: {text}")
     if unseen := undoing.chosen.unseen:
