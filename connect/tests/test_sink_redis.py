@@ -463,6 +463,30 @@ class Others(RedisCase):
         self.assertEqual(self.server.at(), None)
         self.fails(Unfit, "there are keys that begin with stock: already")
 
+    def test_keys_with_the_name_of_a_later_table(self) -> None:
+        """They aren't overwritten, nor removed with its rows."""
+        cart, theirs = table(7, "cart"), {b"cart:1": {b"x": b"y"}, b"cart:9": {b"x": b"z"}}
+        self.server.data.update(theirs)
+        feed = self.feed.path.read_bytes(), self.feed.size, dict(self.feed.told)
+        for lines in (
+            [insert("1", "b", of=cart), truncate(cart)],
+            [insert("2", "b", of=table(name="cart"))],
+        ):
+            self.take(*lines)
+            text = r"keys that begin with cart: already, as those of public.cart \(\d\) would: take"
+            for _ in range(2):
+                self.fails(Unfit, text)
+            self.assertEqual({key: self.server.data[key] for key in theirs}, theirs)
+            self.assertEqual(self.server.at(), "0/100")
+            self.feed.path.write_bytes(feed[0])
+            self.feed.size, self.feed.told = feed[1], dict(feed[2])
+            self.feed.at = self.at = 0x200
+        for key in theirs:
+            del self.server.data[key]
+        self.take(insert("1", "b", of=cart))
+        self.run_it()
+        self.assertEqual(self.server.rows()["cart:1"], {"id": "1", "name": "b"})
+
     def test_what_is_known_of_tables_is_removed(self) -> None:
         del self.server.data[b"pgsub:tables"]
         self.fails(Unfit, "something else has removed pgsub:tables")

@@ -226,6 +226,7 @@ class Redis(Engine):
         self.transact([("DEL", LOADING, REMOVED)], self.lsn)
         form.check_new()
         tables = [it for it in map(self.relations.begin, base.tables()) if it]
+        form.note_begun()
         if tables:
             names = json.dumps([it.name for it in tables])
             self.transact([("SET", LOADING, names)], self.lsn)

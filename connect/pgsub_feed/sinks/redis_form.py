@@ -68,6 +68,9 @@ class Form(Holder):
     def check_new(self) -> None:
         """Looks at what there is before anything is begun."""
 
+    def note_begun(self) -> None:
+        """All tables of the base are made: what there is may be of these by now."""
+
     def doomed(self) -> list[str]:
         """The names of tables with more rows than what waits can name, which are to be removed
         behind it, before anything else comes."""

@@ -17,7 +17,7 @@ from ..formats.keys import NULL, row_text
 from ..reader.commits import XID, Cell, Cells, Change, Commit, Event, Missed
 from .redis_calls import Calls, Command, Said, asked, size_of, understood
 from .redis_form import Form
-from .relations import Kept
+from .relations import ASIDE, Kept
 
 # How many keys one command has, one step of a search looks at, and one MULTI removes of a table
 # that has many.
@@ -68,8 +68,8 @@ class Hashes(Form):
         self.emptied = dict[int, tuple[int, int]]()
         # the names of tables with more rows than what waits may name, which all are to be removed
         self.left = list[str]()
-        # what keys that were there before began with
-        self.foreign = set[str]()
+        # while it begins: what keys that were there before begin with
+        self.foreign: set[str] | None = None
 
     def clear(self) -> None:
         self.waiting.clear()
@@ -176,12 +176,22 @@ class Hashes(Form):
             begin for begin, sign, _ in (it.partition(":") for it in self.scan("*:*")) if sign
         }
 
+    def note_begun(self) -> None:
+        self.foreign = None
+
     def make(self, new: Kept) -> None:
-        if new.name in self.foreign:
+        if self.is_foreign(new.name):
             raise Unfit(
-                f"{self.calls.where}: there are keys that begin with {new.name}: already, as those of {new.relation.text()} would: remove"
-                " them, or take another database"
+                f"{self.calls.where}: there are keys that begin with {new.name}: already, as those of {new.relation.text()} would: take"
+                " another database, or remove them where a sink has left them"
             )
+
+    def is_foreign(self, name: str) -> bool:
+        """Whether something else has keys that would be those of a table. (Of what the sink has
+        under that name, as of a table that was dropped, all waits to be moved.)"""
+        if self.foreign is not None:
+            return name in self.foreign
+        return next(self.stored(name), None) is not None
 
     def remove(self, old: Kept) -> None:
         for key in self.waiting_of(old.name):
@@ -204,6 +214,8 @@ class Hashes(Form):
         is_same_key = old.keys == new.keys
         if old.name == new.name and is_same_key and not dropped:
             return
+        if old.name != new.name and not new.name.startswith(ASIDE):
+            self.make(new)
         moved = dict[str, Value]()
         rows = self.rows(old.name)
         for key, value in rows.items():
