@@ -682,7 +682,9 @@ class Beginning(TablesCase):
     def test_another_file(self) -> None:
         with open(self.into, "wb") as file:
             file.write(b"mine")
-        with self.assertRaisesRegex(FileError, "is there and has no tables that follow a feed"):
+        # (it may be a store)
+        text = "is there and has no tables that follow a feed: name another file$"
+        with self.assertRaisesRegex(FileError, text):
             self.run_it()
         words = ["tables", "--feed", str(self.path), "--into", f"{self.folder}/no/rows.db"]
         with logged():

@@ -272,10 +272,13 @@ class GoesOn(NatsCase):
 
     def test_messages_of_others(self) -> None:
         self.run_it_with(
-            "its last one, 1, isn't of a sink",
+            "its last one, 1, isn't of a sink: take another one$",
             lambda: self.server.add("pgsub.x", b"NATS/1.0\r\n\r\n", b"{}"),
         )
-        self.run_it_with("its last one is gone", lambda: setattr(self.server, "last", 7))
+        self.run_it_with(
+            "its last one is gone: take another one, or remove it to begin anew$",
+            lambda: setattr(self.server, "last", 7),
+        )
         self.run_it_with(
             "the last message of the commit before is gone",
             lambda: self.server.add("pgsub.x", header_bytes({"Nats-Msg-Id": "0/100:0"}), b"{}"),

@@ -70,8 +70,11 @@ class Nats(Engine):
         last = self.stream.message(seq=self.stream.sequence) if info.messages else None
         read = read_id(last.id) if last else None
         if last is None or read is None:
-            found = f", {last.sequence}, isn't of a sink" if last else " is gone"
-            text = f"{self.stream.where}: messages are there, and its last one{found}: take another one, or remove it to begin anew"
+            # (what isn't of a sink somebody may need)
+            found, anew = " is gone", ", or remove it to begin anew"
+            if last:
+                found, anew = f", {last.sequence}, isn't of a sink", ""
+            text = f"{self.stream.where}: messages are there, and its last one{found}: take another one{anew}"
             raise Unfit(text)
         commit = (
             last
