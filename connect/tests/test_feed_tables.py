@@ -637,6 +637,18 @@ class Chosen(TablesCase):
 
 
 class Beginning(TablesCase):
+    def test_names_of_no_table(self) -> None:
+        """(A table that is set aside has its name, as one has that has no row.)"""
+        self.take(insert("1", "a"), truncate(table(2, "other", schema="sales")))
+        aside = table(9, "x", [Column(it, 25) for it in ("rowid", "_rowid_", "oid")], "f")
+        self.take(insert("1", "2", "3", of=aside))
+        for _ in range(2):
+            told = self.run_it(1, table=("stock", "Stock", "sales.other", '"x"'))
+            self.assertEqual(
+                [it for it in told if it.startswith("warning: --table")],
+                ["warning: --table Stock: the feed has told of no such table so far"],
+            )
+
     def test_mode_and_journal(self) -> None:
         self.take(insert("1", "a"))
         self.run_it(mode=0o640)

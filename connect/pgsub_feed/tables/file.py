@@ -196,6 +196,12 @@ class Rows:
             return None
         return None if self.keys.has_news(relation) else kept
 
+    def unseen(self) -> list[str]:
+        """The chosen names that no table has, of those that were told so far."""
+        told = {full_name(it.relation) for it in self.kept.values()}
+        told |= {(it.schema, it.table) for it in self.asides.known.values()}
+        return sorted(self.chosen.difference(*(names_of(*it) for it in told)))
+
     def is_left(self, relation: Relation) -> bool:
         """Whether it is noted already that a relation wasn't chosen, or is set aside."""
         oid, aside = relation.oid, self.asides.known.get(relation.oid)

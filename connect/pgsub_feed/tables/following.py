@@ -196,6 +196,7 @@ class Tables:
         self.rows, self.check, self.applier = rows, check, Applier(rows, check, joins=True)
         # of the open transaction: how many changes it has, and where its last commit ends
         self.changes, self.end = 0, rows.at
+        self.has_told = False
 
     @property
     def at(self) -> int:
@@ -224,10 +225,17 @@ class Tables:
 
     def look(self) -> None:
         """Has the indexes that the server has by now. (Nobody else writes the file.)"""
+        self.tell_unseen()
         if self.rows.indexes and self.rows.indexes.has_news():
             self.rows.begin()
             self.rows.make_indexes()
             self.rows.settle(self.rows.at)
+
+    def tell_unseen(self) -> None:
+        """Warns once of names that no table has, as misspelt ones."""
+        for name in [] if self.has_told else self.rows.unseen():
+            log.warning(f"--table {name}: the feed has told of no such table so far")
+        self.has_told = True
 
     def safe(self) -> int:
         """(`Noted` has the disk have the file's log.)"""
@@ -326,6 +334,7 @@ def follow(rows: Rows, wanted: Wanted, check: Check, parent: Parent | None = Non
     is_stopped = False
     try:
         following.follow()
+        tables.tell_unseen()
     except Stopped:
         is_stopped = True
     following.finish()
