@@ -367,6 +367,23 @@ class Shapes(TablesCase):
             self.rows("SELECT name FROM pragma_table_info('stock') WHERE pk"), [("id",)]
         )
 
+    def test_a_key_that_holds_once_rows_come_anew(self) -> None:
+        """As those of a table that got one by an ALTER, which are copied anew."""
+        self.after(insert("1", "a", of=table(letter="f")), insert("1", "a", of=table(letter="f")))
+        keys = "SELECT name FROM pragma_table_info('stock') WHERE pk"
+        wider = table(columns=[ID, NAME, Column("new", 23, -1, True)])
+        one = table(columns=[Column("id", 23), NAME, Column("new", 23, -1, True)])
+        for of, key in ((wider, ["id", "new"]), (one, ["new"])):
+            self.after(insert("3", "c", None, of=of))
+            self.assertEqual(self.rows(keys), [])
+            self.repaired(truncate(of), insert("1", "a", "1", of=of), insert("1", "a", "2", of=of))
+            self.run_it()
+            self.assertEqual(sorted(it for it, in self.rows(keys)), key)
+            rows = self.after(update(["1", "a", "2"], ["1", "b", "2"], of=of))
+            self.assertEqual(rows, [(1, "a", 1), (1, "b", 2)])
+        indexes = "SELECT sql FROM sqlite_schema WHERE type = 'index' AND tbl_name = 'stock'"
+        self.assertEqual(self.rows(indexes), [])
+
     def test_a_key_that_is_null(self) -> None:
         of = table(columns=[Column("id", 23), Column("new", 23, -1, True)])
         self.take(delete("2", "b"), insert("7", "8", of=of))

@@ -289,10 +289,12 @@ class Rows:
         kept.rename(name)
 
     def rekeyed(self, kept: Kept) -> Kept:
-        """Gives a table that is empty now the primary key that the server has."""
+        """Gives a table that is empty now the primary key that the server has, or that rows from
+        before an alteration didn't let it have."""
         primary = self.keys.of(kept.relation)
         new = Kept(kept.name, kept.relation, self.form, primary or ())
-        if not primary or (new.target.key == kept.target.key and kept.target.is_keyed):
+        is_same = new.target.key == kept.target.key and kept.target.is_keyed
+        if is_same or not new.target.is_keyed:
             return kept
         return self.carried(kept, new)
 
