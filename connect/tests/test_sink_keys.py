@@ -314,6 +314,20 @@ class BulkLines(KeysCase):
             (found,) = self.bulk(put("5", "x"), *rows, put("6", "x"), other, told=told)
             self.assertEqual(found, {"delete": {**self.about("7"), "_index": "other"}})
 
+    def test_its_rows_come_anew(self) -> None:
+        """After a TRUNCATE, as that of a table which is added, for which the index is made anew."""
+        begin = f"0/{self.at:X}"
+        self.take(put("5", "x"), put("1", "a"), put("1", "b"))
+        self.take(put("6", "x"))
+        self.take(truncate(FULL), put("1", "a"))
+        expected: list[Any] = [{"index": self.about("1")}, {"id": 1, "name": "a"}]
+        self.take(put("2", "b"))
+        expected += [{"index": self.about("2")}, {"id": 2, "name": "b"}]
+        told = f"rows have null in the key, or equal values, .*left out from here on. {ANEW}"
+        self.assertEqual(
+            self.printed("--from", begin, "--on-truncate", "true", told=told), expected
+        )
+
     def test_another_key_meanwhile(self) -> None:
         """Dropped, added, or of other columns: the table is left out, until it is begun anew."""
         ways: list[tuple[tuple[str, ...], tuple[str, ...]]]

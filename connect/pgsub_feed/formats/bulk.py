@@ -242,3 +242,7 @@ class Bulk(Objects):
                 f" {index}, and go on with --from {lsn_text(commit.prev)} --truncated {commit.text()}"
             )
         left.forget(index)
+        # (none is left, whatever they were named by: its rows come anew)
+        self.given_up.discard(relation.oid)
+        self.keys.pop(relation.oid, None)
+        self.found.pop(relation.oid, None)
