@@ -475,6 +475,23 @@ class Files(VerifyCase):
             [f"2 tables, 14 rows in {self.other} at 0/200: equal by the digests that are kept"],
         )
 
+    def test_a_table_whose_name_another_one_has(self) -> None:
+        """(A file that was begun with a store has none of its rows.)"""
+        self.take(insert("1", "a", of=table(9)))
+        self.run_it()
+        shutil.copyfile(self.into, self.other)
+        self.equal(other=self.other)
+        for of in ("relations", "digests"):
+            self.plant(f"DELETE FROM pgsub_{of} WHERE oid = 1", self.other)
+        with contextlib.closing(sqlite3.connect(self.other, isolation_level=None)) as base:
+            base.execute('DROP TABLE "pgsub_old 1"')
+        for _ in range(2):
+            for digests in (False, True):
+                self.equal(other=self.other, digests=digests)
+            self.into, self.other = self.other, self.into
+        self.plant("UPDATE stock SET name = 'b'", self.other)
+        self.assertEqual(len(self.verified(1, other=self.other)), 1)
+
     def test_either_is_ahead(self) -> None:
         self.take(update(["1", "name 1"], ["1", "b"]), delete("1", "", of=OF_WHOLE))
         self.take(insert("11", "c"), update(["1", "b"], ["5000", "b"]))

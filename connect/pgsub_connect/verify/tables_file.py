@@ -29,6 +29,7 @@ from pgsub_feed.reader.commits import Head
 from pgsub_feed.reader.segments import read_source
 from pgsub_feed.reader.trail import Trail
 from pgsub_feed.relation import Column, Shape
+from pgsub_feed.tables.file import OLDER
 from pgsub_feed.tables.schema import full_name, read_position
 from pgsub_feed.tables.set_aside import cure, store_at
 from pgsub_feed.tables.sqlite_files import is_tables
@@ -266,7 +267,7 @@ def with_file(comparison: TablesComparison, check: Check) -> int:
             if it.at > point:
                 trail = stack.enter_context(contextlib.closing(trail_to(comparison, it, point)))
                 it.go_back(trail)
-        tables = tables_of((other, view))
+        tables = [it for it in tables_of((other, view)) if not is_former(it, (other, view))]
         tables = chosen(tables, list(comparison.chosen)) if comparison.chosen else tables
         both = with_rows(comparison, other, with_rows(comparison, view, tables))
         found, unknown = Compared(), dict[int, str]()
@@ -276,6 +277,13 @@ def with_file(comparison: TablesComparison, check: Check) -> int:
         where = f"in {other.path} at {lsn_text(point)}"
         status = compare(comparison, Files(other, view), rest, where, [other, view])
     return found.ended(status)
+
+
+def is_former(table: Table, views: Sequence[View]) -> bool:
+    """Whether only one file has a table, under the name of one whose own another table got: nobody
+    reads its rows, and a file that began with a store's never had them."""
+    found = [view.tables[table.oid].name for view in views if table.oid in view.tables]
+    return len(found) == 1 and found[0].startswith(OLDER)
 
 
 def check_same_source(one: View, two: View) -> None:
